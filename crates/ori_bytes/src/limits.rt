@@ -1,0 +1,58 @@
+// Limits and sizes as constants, which contracts cite by name.
+
+/// Bytes of a page.
+pub const PAGE_BYTES: usize = 4096;
+
+/// The greatest number of pages of a database.
+pub const MAX_PAGES: u32 = 1 << 20;
+
+/// The greatest length of one log file, in bytes.
+pub const MAX_LOG_BYTES: u64 = 1 << 30;
+
+/// The greatest place in a file that a write may reach, in bytes.
+pub const MAX_FILE_BYTES: u64 = 1 << 40;
+
+/// The greatest weight of a transaction, and so the most pages that one commit changes.
+pub const MAX_WEIGHT: u64 = 240_000;
+
+/// The weight of a transaction before its changes are counted.
+pub const BASE_WEIGHT: u64 = 100;
+
+/// The weight of one change before its bytes are counted.
+pub const CHANGE_WEIGHT: u64 = 8;
+
+/// Record bytes that count 1 in a weight when they are begun.
+pub const BYTES_PER_WEIGHT: u64 = 3000;
+
+/// The greatest number of positions of a cluster.
+pub const MAX_POSITIONS: i64 = 250_000;
+
+/// The greatest length of a record, in bytes: what a page of one record has room for.
+pub const MAX_RECORD_BYTES: u64 = 4086;
+
+/// The greatest length of a line of input, in bytes, without its end.
+pub const MAX_LINE_BYTES: usize = 4000;
+
+/// The greatest length of the input, in bytes.
+pub const MAX_INPUT_BYTES: u64 = 1 << 30;
+
+/// The greatest session number. Sessions count from 1.
+pub const MAX_SESSIONS: u8 = 64;
+
+/// The most times that a line may ask for its statement to be run.
+pub const MAX_TRIES: u32 = 1_000_000;
+
+/// How deep values, and expressions, may nest.
+pub const MAX_NESTING: u64 = 64;
+
+/// The greatest length of a name, in bytes.
+pub const MAX_NAME_BYTES: usize = 64;
+
+/// The most entries of the feed of one opening.
+pub const MAX_FEED_ENTRIES: u64 = 1 << 20;
+
+/// The most bytes of the feed of one opening.
+pub const MAX_FEED_BYTES: u64 = 1 << 29;
+
+/// The number of cache partitions. Page p is in partition p mod this.
+pub const PARTITIONS: u8 = 8;
