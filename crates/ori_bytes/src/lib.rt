@@ -6,15 +6,24 @@
 
 mod blob;
 mod causes;
+mod cursor;
+mod fault;
 pub mod limits;
 mod lists;
 mod memory;
 mod rid;
 mod text;
+mod varint;
 
 pub use blob::Blob;
 pub use causes::Causes;
+pub use cursor::Cursor;
+pub use fault::ByteFault;
 pub use lists::{NumberList, RidList};
 pub use memory::NoMemory;
 pub use rid::Rid;
 pub use text::Text;
+pub use varint::{one_form, one_spelling, put_varint};
+
+#[cfg(test)]
+mod tests;

@@ -25,7 +25,7 @@ pub const CHANGE_WEIGHT: u64 = 8;
 pub const BYTES_PER_WEIGHT: u64 = 3000;
 
 /// The greatest number of positions of a cluster.
-pub const MAX_POSITIONS: i64 = 250_000;
+pub const MAX_POSITIONS: u64 = 250_000;
 
 /// The greatest length of a record, in bytes: what a page of one record has room for.
 pub const MAX_RECORD_BYTES: u64 = 4086;
@@ -56,3 +56,30 @@ pub const MAX_FEED_BYTES: u64 = 1 << 29;
 
 /// The number of cache partitions. Page p is in partition p mod this.
 pub const PARTITIONS: u8 = 8;
+
+/// The byte of an open gate of the log. A gate with any other byte is closed.
+pub const OPEN_GATE: u8 = 0xa5;
+
+/// The byte that closes a gate of the log.
+pub const CLOSED_GATE: u8 = 0;
+
+/// The greatest length of the file of pages, in bytes.
+pub const MAX_PAGES_BYTES: u64 = 1 << 32;
+
+/// The owner of page 0.
+pub const HEAD_OWNER: u32 = 1;
+
+/// The owner of the pages of cluster 1: 65,536 and the cluster.
+pub const FIRST_CLUSTER_OWNER: u32 = 65_537;
+
+/// The kind of page 0.
+pub const HEAD_KIND: u8 = 1;
+
+/// The kind of a page with records.
+pub const SLOTS_KIND: u8 = 5;
+
+/// The number of the form of the pages.
+pub const STAGE_FORMAT: u32 = 0;
+
+/// Bytes of a record page before the record: owner, kind, three zeros and the length.
+pub const RECORD_PAGE_HEAD: usize = 10;
