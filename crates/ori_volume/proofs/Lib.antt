@@ -1,0 +1,12 @@
+pub mod Pieces
+pub mod Bytes
+pub mod TakenBack
+pub mod Past
+pub mod Data
+pub mod Steps
+pub mod Told
+pub mod Moments
+pub mod Filled
+pub mod Picked
+pub mod Lasting
+pub mod RunSteps
