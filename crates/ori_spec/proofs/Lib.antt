@@ -1,0 +1,4 @@
+pub mod NoFloats
+mod WorkedRows
+mod Histories
+mod WorkedRecord

@@ -1,0 +1,11 @@
+pub mod Value
+pub mod Json
+pub mod Base
+pub mod Apply
+pub mod Statement
+pub mod Line
+pub mod Reply
+pub mod Run
+pub mod Spelling
+pub mod Log
+pub mod Stage

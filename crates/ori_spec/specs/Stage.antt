@@ -1,0 +1,87 @@
+-- The form of the pages, as yet one record a page, and what a crash's leavings open to.
+use Rattle.std.specs.Prelude.{◌≡◌, ◌⊎◌, ℕ, ◌+◌, ◌-◌, ◌^◌, ◌<◌, ◌≤◌, List, [], ◌∷◌, ◌++◌, length, take, replicate, get_or, codes, IsTrue, Option, Some, None, ⊤}
+use Rattle.std.specs.List.{AllByRecursion}
+use Rattle.std.specs.Int.{w16, w32, to_be_bytes}
+use Rattle.ori_bytes.specs.declared.limits.TheConstants.{PAGE_BYTES, MAX_RECORD_BYTES, MAX_POSITIONS, HEAD_OWNER, HEAD_KIND, SLOTS_KIND, STAGE_FORMAT, FIRST_CLUSTER_OWNER}
+use Rattle.ori_spec.specs.Base.{RecordData, BaseData, initial_base, EntryData}
+use Rattle.ori_spec.specs.Apply.{comes_before, rid_at, replay, apply}
+use Rattle.ori_spec.specs.Statement.{record_at}
+use Rattle.ori_spec.specs.Spelling.{Spells}
+use Rattle.ori_spec.specs.Log.{ImageData, FilesData, IsUnmade, IsMade, pages_of}
+
+-- ---- pages of this form
+
+-- bytes with zeros up to a page's end
+abbrev pub filled : List ℕ → List ℕ
+filled bytes = bytes ++ replicate (PAGE_BYTES - length bytes) 0
+
+-- owner, kind and three zero bytes begin every page
+abbrev pub page_head : ℕ → ℕ → List ℕ
+page_head owner kind = to_be_bytes w32 owner ++ kind ∷ 0 ∷ 0 ∷ 0 ∷ []
+
+-- page 0: the form's number, and the number of pages
+abbrev pub head_page : ℕ → List ℕ
+head_page count = filled (page_head HEAD_OWNER HEAD_KIND ++ to_be_bytes w32 STAGE_FORMAT ++ to_be_bytes w32 count)
+
+-- a page with the bytes of one record. A length of 0 says that the position has no record.
+abbrev pub record_page : List ℕ → List ℕ
+record_page bytes = filled (page_head FIRST_CLUSTER_OWNER SLOTS_KIND ++ to_be_bytes w16 (length bytes) ++ bytes)
+
+-- the page of a position, where the base has this record there or none
+abbrev pub IsPageOf : List ℕ → Option RecordData → Type 0
+IsPageOf page None = page ≡ record_page []
+IsPageOf page (Some r) = (bytes : List ℕ) × Spells bytes r × (page ≡ record_page bytes)
+
+-- The pages stand for the base: its schema is the initial one, cluster 2 has given no position, nothing is grown; page 0 has the
+-- next position of cluster 1, and page p + 1 the record at position p.
+pub record StandFor (pages : List (List ℕ)) (base : BaseData) : Type 0 where
+  pub schema : base.schema ≡ initial_base.schema
+  pub grown : base.grown ≡ []
+  pub next : base.next ≡ get_or base.next 0 0 ∷ 0 ∷ []
+  pub head : get_or pages 0 [] ≡ head_page (get_or base.next 0 0 + 1)
+  pub each : (p : ℕ) → p < get_or base.next 0 0 → IsPageOf (get_or pages (p + 1) []) (record_at base.stored (rid_at 1 p))
+
+-- ---- sound bases
+
+-- the records rise in row order
+abbrev pub AreRising : List RecordData → Type 0
+AreRising [] = ⊤
+AreRising (r ∷ []) = ⊤
+AreRising (r ∷ s ∷ ss) = IsTrue (comes_before r.rid s.rid) × AreRising (s ∷ ss)
+
+-- a record of class V at a position that was given, whose spelling has room in a page
+pub record IsSoundRecord (next : ℕ) (r : RecordData) : Type 0 where
+  pub class : r.class ≡ codes "V"
+  pub place : (p : ℕ) × (p < next) × (r.rid ≡ rid_at 1 p)
+  pub version : (0 < r.version) × (r.version < 2 ^ 32)
+  pub spelled : (bytes : List ℕ) × Spells bytes r × (length bytes ≤ MAX_RECORD_BYTES)
+
+pub record IsSound (base : BaseData) : Type 0 where
+  pub each : AllByRecursion (IsSoundRecord (get_or base.next 0 0)) base.stored
+  pub rising : AreRising base.stored
+  pub next : AllByRecursion (λ n. n ≤ MAX_POSITIONS) base.next
+
+-- ---- what files open to
+
+pub record StandsMade (files : FilesData) (records : List (List ImageData)) (base : BaseData) : Type 0 where
+  pub form : IsMade files records
+  pub stands : ((records ≡ []) × (files.pages ≡ []) × (base ≡ initial_base)) ⊎ StandFor (pages_of files records) base
+
+-- The files are of the form: those of no volume yet, or those of one whose pages stand for some base, be it sound or not.
+abbrev pub IsDatabase : FilesData → Type 0
+IsDatabase files = IsUnmade files ⊎ ((records : List (List ImageData)) × (base : BaseData) × StandsMade files records base)
+
+-- The files are of the form and stand for this base. Files before a volume is made stand for the initial one.
+pub record Opens (files : FilesData) (base : BaseData) : Type 0 where
+  pub sound : IsSound base
+  pub stands : (IsUnmade files × (base ≡ initial_base)) ⊎ ((records : List (List ImageData)) × StandsMade files records base)
+
+-- The files open to the base after the first m entries of the history, for an m from k on; or to that with an entry after it
+-- whose own write failed when the history had m entries.
+abbrev pub Leaves : FilesData → BaseData → List EntryData → List (ℕ × EntryData) → ℕ → Type 0
+Leaves files base history doubtful k =
+    ((m : ℕ) × (k ≤ m) × (m ≤ length history) × Opens files (replay base (take m history)))
+    ⊎ ((d : ℕ × EntryData) × IsAmong d doubtful × (k ≤ d.0) × Opens files (apply (replay base (take d.0 history)) d.1)) where
+      IsAmong : (ℕ × EntryData) → List (ℕ × EntryData) → Type 0
+      IsAmong d [] = ⊥
+      IsAmong d (e ∷ es) = (d ≡ e) ⊎ IsAmong d es

@@ -1,0 +1,121 @@
+-- The statements that can be written so far, as a grammar of their texts, and what each means over a base.
+use Rattle.std.specs.Prelude.{◌≡◌, ◌⊎◌, ℕ, ◌+◌, ◌-◌, ◌*◌, ◌^◌, ◌<◌, ℤ, pos, neg_ℤ, ◌≤ℤ◌, Bool, false, not, ◌&&◌, ◌||◌, ◌==◌, nat_lt, nat_le, if◌then◌else◌, List, [], ◌∷◌, ◌++◌, length, map, codes, IsTrue, Option, Some, None}
+use Rattle.std.specs.List.{list_all, list_any}
+use Rattle.ori_bytes.specs.declared.rid.Rid.{Rid}
+use Rattle.ori_bytes.specs.declared.limits.TheConstants.{MAX_NAME_BYTES}
+use Rattle.ori_spec.specs.Value.{Tree, integer, long, str, link, Fields, no_pairs, pair}
+use Rattle.ori_spec.specs.Base.{RecordData, BaseData, create, TxData}
+use Rattle.ori_spec.specs.Apply.{same_bytes, same_rid, is_bag_name, temporary}
+
+-- ---- words and names
+
+abbrev pub is_between : ℕ → ℕ → ℕ → Bool
+is_between low high b = nat_le low b && nat_le b high
+
+abbrev pub is_letter : ℕ → Bool
+is_letter b = is_between 65 90 b || (is_between 97 122 b || b == 95)
+
+abbrev pub is_digit : ℕ → Bool
+is_digit b = is_between 48 57 b
+
+-- an ASCII letter or an underscore, then letters, digits and underscores
+abbrev pub is_word : List ℕ → Bool
+is_word [] = false
+is_word (b ∷ bs) = is_letter b && list_all (λ c. is_letter c || is_digit c) bs
+
+abbrev pub capital : ℕ → ℕ
+capital b = if is_between 97 122 b then b - 32 else b
+
+abbrev pub keywords : List (List ℕ)
+keywords = codes "SELECT" ∷ codes "FROM" ∷ codes "WHERE" ∷ codes "ORDER" ∷ codes "BY" ∷ codes "ASC" ∷ codes "DESC" ∷ codes "SKIP"
+    ∷ codes "LIMIT" ∷ codes "INSERT" ∷ codes "INTO" ∷ codes "SET" ∷ codes "UPDATE" ∷ codes "REMOVE" ∷ codes "DELETE" ∷ codes "CREATE"
+    ∷ codes "VERTEX" ∷ codes "EDGE" ∷ codes "TO" ∷ codes "CLASS" ∷ codes "EXTENDS" ∷ codes "PROPERTY" ∷ codes "INDEX" ∷ codes "ON"
+    ∷ codes "UNIQUE" ∷ codes "NOTUNIQUE" ∷ codes "TRAVERSE" ∷ codes "MAXDEPTH" ∷ codes "WHILE" ∷ codes "STRATEGY"
+    ∷ codes "DEPTH_FIRST" ∷ codes "BREADTH_FIRST" ∷ codes "BEGIN" ∷ codes "COMMIT" ∷ codes "ROLLBACK" ∷ codes "AND" ∷ codes "OR"
+    ∷ codes "NOT" ∷ codes "IS" ∷ codes "NULL" ∷ codes "TRUE" ∷ codes "FALSE" ∷ codes "BETWEEN" ∷ codes "CONTAINS" ∷ codes "AS" ∷ []
+
+-- keywords match in any case of their letters
+abbrev pub is_keyword : List ℕ → Bool
+is_keyword word = list_any (λ k. same_bytes k (map capital word)) keywords
+
+-- names that a statement may not write
+abbrev pub is_reserved : List ℕ → Bool
+is_reserved name = same_bytes name (codes "out") || (same_bytes name (codes "in") || is_bag_name name)
+
+abbrev pub is_field_name : List ℕ → Bool
+is_field_name name = is_word name && (nat_le (length name) MAX_NAME_BYTES && (not (is_keyword name) && not (is_reserved name)))
+
+-- ---- links
+
+abbrev pub value_of_digits : ℕ → List ℕ → ℕ
+value_of_digits so_far [] = so_far
+value_of_digits so_far (b ∷ bs) = value_of_digits (10 * so_far + (b - 48)) bs
+
+-- one or more decimal digits, zeros at the front allowed
+abbrev pub IsDigits : List ℕ → ℕ → Type 0
+IsDigits text n = (0 < length text) × IsTrue (list_all is_digit text) × (n ≡ value_of_digits 0 text)
+
+-- digits, or a minus sign and digits
+abbrev pub IsNumeral : List ℕ → ℤ → Type 0
+IsNumeral text z = ((n : ℕ) × IsDigits text n × (z ≡ pos n)) ⊎ ((digits : List ℕ) × (n : ℕ) × (text ≡ 45 ∷ digits) × IsDigits digits n × (z ≡ neg_ℤ (pos n)))
+
+-- a number of so many bits with a sign
+abbrev pub IsSigned : ℕ → ℤ → Type 0
+IsSigned bits z = (neg_ℤ (pos (2 ^ (bits - 1))) ≤ℤ z) × (z ≤ℤ pos (2 ^ (bits - 1) - 1))
+
+-- `#<cluster>:<position>` in the range of a record identifier
+abbrev pub IsLink : List ℕ → Rid → Type 0
+IsLink text rid = (cluster : List ℕ) × (position : List ℕ) × (text ≡ 35 ∷ cluster ++ 58 ∷ position)
+    × IsNumeral cluster rid.cluster × IsSigned 16 rid.cluster × IsNumeral position rid.position × IsSigned 64 rid.position
+
+-- ---- statements
+
+-- neither a quote nor a backslash
+abbrev pub is_plain : List ℕ → Bool
+is_plain text = list_all (λ b. not (b == 39 || b == 92)) text
+
+-- INSERT INTO V SET <name> = '<value>'
+abbrev pub IsInsert : List ℕ → List ℕ → List ℕ → Type 0
+IsInsert text name value = IsTrue (is_field_name name) × IsTrue (is_plain value)
+    × (text ≡ codes "INSERT INTO V SET " ++ name ++ codes " = '" ++ value ++ codes "'")
+
+-- SELECT FROM <link>
+abbrev pub IsSelect : List ℕ → Rid → Type 0
+IsSelect text rid = (link_text : List ℕ) × IsLink link_text rid × (text ≡ codes "SELECT FROM " ++ link_text)
+
+-- ---- what they mean
+
+abbrev pub record_at : List RecordData → Rid → Option RecordData
+record_at [] rid = None
+record_at (r ∷ rs) rid = if same_rid r.rid rid then Some r else record_at rs rid
+
+-- a whole number that isn't negative, as the least kind that has it
+abbrev pub whole_number : ℕ → Tree
+whole_number n = if nat_lt n (2 ^ 31) then integer (pos n) else long (pos n)
+
+-- a record as a row: its class, its identifier, its version and its fields, in byte order of the names
+abbrev pub whole_row : RecordData → Fields
+whole_row r = pair (codes "@class") (str r.class) (pair (codes "@rid") (link r.rid) (pair (codes "@version") (whole_number r.version) r.fields))
+
+abbrev pub rows_of : Option RecordData → List Fields
+rows_of None = []
+rows_of (Some r) = whole_row r ∷ []
+
+-- the row of the record with an identifier, where there is one
+abbrev pub rows_at : BaseData → Rid → List Fields
+rows_at base rid = rows_of (record_at base.stored rid)
+
+-- the transaction of an INSERT: one new record of class V
+abbrev pub insert_tx : List ℕ → List ℕ → TxData
+insert_tx name value = record { changes = create (temporary 0) (codes "V") (pair name (str value) no_pairs) ∷ []; made = 1 }
+
+-- A statement is answered from the base alone, with these rows; or it has something to commit; or it can't be written yet.
+pub data MeaningData : Type 0 where
+  not_built : MeaningData
+  answered : List Fields → MeaningData
+  pending : TxData → MeaningData
+
+abbrev pub Means : BaseData → List ℕ → MeaningData → Type 0
+Means base text not_built = ((name value : List ℕ) → IsInsert text name value → ⊥) × ((rid : Rid) → IsSelect text rid → ⊥)
+Means base text (answered rows) = (rid : Rid) × IsSelect text rid × (rows ≡ rows_at base rid)
+Means base text (pending tx) = (name : List ℕ) × (value : List ℕ) × IsInsert text name value × (tx ≡ insert_tx name value)
