@@ -1,0 +1,43 @@
+-- One line of a script: how it was answered.
+use Rattle.std.specs.Prelude.{◌≡◌, ◌⊎◌, ℕ, List, [], ◌++◌, Option}
+use Rattle.ori_volume.specs.Streams.{Gave}
+use Rattle.ori_spec.specs.Base.{EntryData}
+use Rattle.ori_spec.specs.Line.{LineData}
+use Rattle.ori_spec.specs.Reply.{AnswerData, answer_text}
+use Rattle.ori_spec.specs.Run.{RunData, Step}
+use Rattle.orient_run.specs.declared.line.LineFault.{LineFault}
+use Rattle.orient_run.specs.declared.line.LineFault.TheVariants as faults
+use Rattle.orient_run.specs.declared.run.Turn.{Turn}
+use Rattle.orient_run.specs.declared.run.Turn.TheVariants.{Answered, Ended}
+use Rattle.orient_run.specs.Lines.{Reading}
+use Rattle.orient_run.specs.Database.{Keeps}
+use Rattle.orient_run.specs.Script.{IsRun, GoesOn}
+
+-- the status of a run that a fault of a line ends
+abbrev pub fault_status : LineFault → ℕ
+fault_status faults.Source = 3
+fault_status faults.Bad = 8
+fault_status faults.TooLarge = 9
+fault_status faults.NoMemory = 2
+
+-- how much of an answer's text was given: all of it, or a part after which the run ends
+abbrev pub IsPrinted : Turn → List ℕ → Type 0
+IsPrinted Answered unprinted = unprinted ≡ []
+IsPrinted (Ended status) unprinted = (status ≡ 2) ⊎ (status ≡ 4)
+
+-- A line was run, and of its answer's text a part from the front was given.
+pub record IsAnswered (run : RunData) (line : LineData) (taken_old taken_new : Option (List ℕ)) (turn : Turn) (pages : List (List ℕ)) (history : List EntryData) : Type 0 where
+  pub next : RunData
+  pub answer : AnswerData
+  pub stepped : Step run line answer next
+  pub keeps : Keeps pages history next
+  pub output : List ℕ
+  pub unprinted : List ℕ
+  pub text : answer_text answer ≡ output ++ unprinted
+  pub gave : Gave taken_old taken_new output
+  pub printed : IsPrinted turn unprinted
+
+-- After a line the run goes on, or it has ended.
+abbrev pub IsTurned : Option (List ℕ) → Option (List ℕ) → Option (List ℕ) → Option (List ℕ) → Reading → List (List ℕ) → List EntryData → Turn → Type 0
+IsTurned left_old left_new taken_old taken_new reading pages history Answered = GoesOn left_old left_new taken_old taken_new reading pages history
+IsTurned left_old left_new taken_old taken_new reading pages history (Ended status) = IsRun left_old left_new taken_old taken_new status history
