@@ -1,0 +1,18 @@
+//! The write-ahead log: records of page images in one of two files, each behind a gate, and the last gate closed.
+//!
+//! A record is written whole behind its closed gate and made firm before the gate is opened, so that a crash leaves the records
+//! from before it, or those and the new one. No checksum is used.
+#![tactic(auto)]
+
+mod fault;
+mod image;
+mod log;
+mod opening;
+mod stage;
+
+pub use fault::LogFault;
+pub use image::{ImageList, PageImage};
+pub use log::Log;
+
+#[cfg(test)]
+mod tests;

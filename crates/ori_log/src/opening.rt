@@ -1,0 +1,73 @@
+// What makes a volume firm, and a new one.
+ghost use Rattle.std.specs.Prelude.{◌≡◌, ◌+◌, ◌≤◌, ◌∷◌, [], length};
+ghost use Rattle.ori_volume.specs.Causes.{HasCause};
+ghost use Rattle.ori_volume.specs.Story.{Tells};
+ghost use Rattle.ori_log.specs.Opening.{SyncsSound, WritesSound, Settles, MakesLogs, MakesMaster, Makes};
+
+use ori_bytes::limits::{CLOSED_GATE, MAX_FILE_BYTES};
+use ori_volume::{Failed, FileNo, Volume};
+
+// The parity that names the first log.
+const FIRST_MASTER: u8 = 0;
+
+fn sync_one<V: Volume>(volume: &mut V, file: FileNo) -> Result<(), Failed>
+    ensures files { V.files volume.new ≡ V.files volume.old }
+    ensures crash { Tells (SyncsSound file result) (V.story volume.old) (V.story volume.new) }
+    ensures faults { HasCause (V.faults volume.old) (V.faults volume.new) result }
+    ensures log_faults { V.log_faults volume.old ≤ V.log_faults volume.new }
+{
+    volume.sync(file)
+}
+
+fn write_first<V: Volume>(volume: &mut V, file: FileNo, byte: u8) -> Result<(), Failed>
+    ensures crash { Tells (WritesSound file (byte ∷ []) result) (V.story volume.old) (V.story volume.new) }
+    ensures faults { HasCause (V.faults volume.old) (V.faults volume.new) result }
+    ensures log_faults { V.log_faults volume.old ≤ V.log_faults volume.new }
+{
+    volume.write_at(file, 0, &[byte])
+}
+
+/// Syncs all four files.
+pub fn settle<V: Volume>(volume: &mut V) -> Result<(), Failed>
+    ensures files { V.files volume.new ≡ V.files volume.old }
+    ensures crash { Tells (Settles result) (V.story volume.old) (V.story volume.new) }
+    ensures faults { HasCause (V.faults volume.old) (V.faults volume.new) result }
+    ensures log_faults { V.log_faults volume.old ≤ V.log_faults volume.new }
+{
+    sync_one(volume, FileNo::Master)?;
+    sync_one(volume, FileNo::LogA)?;
+    sync_one(volume, FileNo::LogB)?;
+    sync_one(volume, FileNo::Pages)
+}
+
+// Makes two logs without records.
+fn make_logs<V: Volume>(volume: &mut V) -> Result<(), Failed>
+    ensures crash { Tells (MakesLogs result) (V.story volume.old) (V.story volume.new) }
+    ensures faults { HasCause (V.faults volume.old) (V.faults volume.new) result }
+    ensures log_faults { V.log_faults volume.old ≤ V.log_faults volume.new }
+{
+    write_first(volume, FileNo::LogA, CLOSED_GATE)?;
+    write_first(volume, FileNo::LogB, CLOSED_GATE)?;
+    sync_one(volume, FileNo::LogA)?;
+    sync_one(volume, FileNo::LogB)
+}
+
+// Makes the master, which names the first log.
+fn make_master<V: Volume>(volume: &mut V) -> Result<(), Failed>
+    ensures crash { Tells (MakesMaster result) (V.story volume.old) (V.story volume.new) }
+    ensures faults { HasCause (V.faults volume.old) (V.faults volume.new) result }
+    ensures log_faults { V.log_faults volume.old ≤ V.log_faults volume.new }
+{
+    write_first(volume, FileNo::Master, FIRST_MASTER)?;
+    sync_one(volume, FileNo::Master)
+}
+
+/// Makes the files of an empty volume. The logs are firm before the master names one of them.
+pub fn make<V: Volume>(volume: &mut V) -> Result<(), Failed>
+    ensures crash { Tells (Makes result) (V.story volume.old) (V.story volume.new) }
+    ensures faults { HasCause (V.faults volume.old) (V.faults volume.new) result }
+    ensures log_faults { V.log_faults volume.old ≤ V.log_faults volume.new }
+{
+    make_logs(volume)?;
+    make_master(volume)
+}
