@@ -1,0 +1,4 @@
+mod Lookups
+mod Names
+mod Places
+mod Trees

@@ -1,0 +1,46 @@
+-- Fields by their names.
+use Rattle.std.specs.Prelude.{◌≡◌, ℕ, zero, suc, List, Option, Some, None, ⊤, bytes_eq, if◌then◌else◌}
+use Rattle.std.specs.Cmp.Lexicographic.{slice_cmp}
+use Rattle.std.specs.Ordering.{nat_cmp, match_ordering}
+use Rattle.std.specs.declared.cmp.Ordering.TheVariants.{Less}
+use Rattle.ori_spec.specs.Value.{Tree, Fields, no_pairs, pair}
+
+-- the name comes before the other in byte order
+abbrev pub IsBefore : List ℕ → List ℕ → Type 0
+IsBefore name other = slice_cmp nat_cmp name other ≡ Less
+
+abbrev pub IsBeforeAll : List ℕ → Fields → Type 0
+IsBeforeAll name no_pairs = ⊤
+IsBeforeAll name (pair other t fs) = IsBefore name other × IsBeforeAll name fs
+
+-- the names rise in byte order, so no name comes twice
+abbrev pub IsRising : Fields → Type 0
+IsRising no_pairs = ⊤
+IsRising (pair name t fs) = IsBeforeAll name fs × IsRising fs
+
+-- the value of the first field with the name
+abbrev pub field : List ℕ → Fields → Option Tree
+field name no_pairs = None
+field name (pair other t fs) = if bytes_eq name other then Some t else field name fs
+
+-- the fields, with the value at the name: in the old one's place, or before the first greater name
+abbrev pub put : List ℕ → Tree → Fields → Fields
+put name t no_pairs = pair name t no_pairs
+put name t (pair other u fs) = match_ordering (slice_cmp nat_cmp name other) (pair name t (pair other u fs)) (pair name t fs) (pair other u (put name t fs))
+
+-- the fields without the first one with the name
+abbrev pub without : List ℕ → Fields → Fields
+without name no_pairs = no_pairs
+without name (pair other u fs) = if bytes_eq name other then fs else pair other u (without name fs)
+
+-- the name is that of field i, counted from 0, and greater than those before it
+abbrev pub IsAt : List ℕ → Fields → ℕ → Type 0
+IsAt name no_pairs i = ⊥
+IsAt name (pair other t fs) zero = name ≡ other
+IsAt name (pair other t fs) (suc i) = IsBefore other name × IsAt name fs i
+
+-- the name is greater than those of the first i fields, and less than the others
+abbrev pub IsGap : List ℕ → Fields → ℕ → Type 0
+IsGap name fs zero = IsBeforeAll name fs
+IsGap name no_pairs (suc i) = ⊥
+IsGap name (pair other t fs) (suc i) = IsBefore other name × IsGap name fs i

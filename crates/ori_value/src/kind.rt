@@ -1,0 +1,21 @@
+// Kinds of values.
+
+/// The kinds that a value can have. Null has none.
+#[derive(Clone, Copy, Debug, PartialEq, Eq)]
+pub enum Kind {
+    Boolean,
+    Integer,
+    Short,
+    Long,
+    Datetime,
+    Str,
+    Binary,
+    Embedded,
+    EmbeddedList,
+    EmbeddedMap,
+    Link,
+    LinkList,
+    LinkSet,
+    LinkMap,
+    Byte,
+}

@@ -1,0 +1,24 @@
+//! Values, documents and the lists of them, as the code holds them.
+//!
+//! Contracts see a value as its plain tree: `tree_of` leads from a `Value` to it, and lists of values and of fields are seen
+//! as the lists of their trees.
+#![tactic(auto)]
+
+mod fields;
+mod kind;
+mod laws;
+mod lists;
+mod rid_fields;
+mod value;
+mod values;
+
+pub use fields::{FieldList, names_rise};
+pub use kind::Kind;
+pub use laws::{put_law, without_law};
+pub use lists::{KeyList, TextList};
+pub use rid_fields::RidFieldList;
+pub use value::{Document, Value};
+pub use values::ValueList;
+
+#[cfg(test)]
+mod tests;
