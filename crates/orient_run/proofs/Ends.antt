@@ -8,18 +8,18 @@ use Rattle.ori_spec.specs.Base.{initial_base, EntryData}
 use Rattle.ori_spec.specs.Line.{LineData, statement, tries, step, StopData, at_end, at_bad_line, at_limit, Splits, Gives, Reads, IsSaid}
 use Rattle.ori_spec.specs.Reply.{AnswerData, answer_text, answers_text}
 use Rattle.ori_spec.specs.Run.{RunData, run_start, Run}
-use Rattle.orient_run.specs.declared.line.Line.{Line}
-use Rattle.orient_run.specs.declared.line.LineFault.{LineFault}
-use Rattle.orient_run.specs.declared.line.LineFault.TheVariants as faults
+use Rattle.ori_text.specs.declared.line.Line.{Line}
+use Rattle.ori_text.specs.declared.line.LineFault.{LineFault}
+use Rattle.ori_text.specs.declared.line.LineFault.TheVariants as faults
 use Rattle.orient_run.specs.declared.run.Turn.{Turn}
 use Rattle.orient_run.specs.declared.run.Turn.TheVariants.{Answered, Ended}
-use Rattle.orient_run.specs.Lines.{Reading, joined, AreWhole, HasLast}
-use Rattle.orient_run.specs.LineReading.{Moves, HoldsPart, IsLine, IsEndOfInput, IsSourceFault, IsFault, line_of}
+use Rattle.ori_text.specs.Lines.{Reading, joined, AreWhole, HasLast}
+use Rattle.ori_text.specs.LineReading.{Moves, HoldsPart, IsLine, IsEndOfInput, IsSourceFault, IsFault, line_of}
 use Rattle.orient_run.specs.Database.{Keeps, IsShort}
 use Rattle.orient_run.specs.Script.{Ends, IsRun, GoesOn}
 use Rattle.orient_run.specs.Turns.{IsAnswered, IsTurned, fault_status}
-use Rattle.orient_run.proofs.Splitting.{joined-append, AreWhole-append, parts_of}
-use Rattle.orient_run.proofs.Reading.{no_long}
+use Rattle.ori_text.proofs.Splitting.{joined-append, AreWhole-append, parts_of}
+use Rattle.ori_text.proofs.Reading.{no_long}
 use Rattle.orient_run.proofs.Runs.{Run-then, answers_text-append, Moved, moved}
 
 -- ---- a statement that was said has room in a line

@@ -7,11 +7,11 @@ use Rattle.ori_spec.specs.Base.{EntryData}
 use Rattle.ori_spec.specs.Line.{LineData, StopData, at_end, Reads}
 use Rattle.ori_spec.specs.Reply.{AnswerData, answer_text, answers_text}
 use Rattle.ori_spec.specs.Run.{RunData, Step, Run}
-use Rattle.orient_run.specs.Lines.{Reading, joined, AreWhole, HasLast}
-use Rattle.orient_run.specs.LineReading.{IsAtEnd, Moves}
+use Rattle.ori_text.specs.Lines.{Reading, joined, AreWhole, HasLast}
+use Rattle.ori_text.specs.LineReading.{IsAtEnd, Moves}
 use Rattle.orient_run.specs.Script.{GoesOn}
-use Rattle.orient_run.proofs.Splitting.{joined-append, AreWhole-append}
-use Rattle.orient_run.proofs.Reading.{Reads-then, no_long}
+use Rattle.ori_text.proofs.Splitting.{joined-append, AreWhole-append}
+use Rattle.ori_text.proofs.Reading.{Reads-then, no_long}
 
 pub Run-then : (old mid new : RunData) (lines : List LineData) (line : LineData) (answers : List AnswerData) (answer : AnswerData)
     → Run old lines answers mid → Step mid line answer new → Run old (lines ++ line ∷ []) (answers ++ answer ∷ []) new

@@ -3,10 +3,6 @@ pub mod Pages
 pub mod Fields
 pub mod Replies
 pub mod Statements
-pub mod Lines
-pub mod LineReading
-pub mod LineForms
-pub mod LineSteps
 pub mod Database
 pub mod Script
 pub mod Turns

@@ -5,8 +5,8 @@ use Rattle.ori_spec.specs.Base.{initial_base, EntryData}
 use Rattle.ori_spec.specs.Line.{LineData, StopData, at_end, at_bad_line, at_limit, Gives, Reads}
 use Rattle.ori_spec.specs.Reply.{AnswerData, answers_text}
 use Rattle.ori_spec.specs.Run.{RunData, run_start, Run}
-use Rattle.orient_run.specs.Lines.{Reading, joined, AreWhole, HasLast}
-use Rattle.orient_run.specs.LineReading.{IsAtEnd}
+use Rattle.ori_text.specs.Lines.{Reading, joined, AreWhole, HasLast}
+use Rattle.ori_text.specs.LineReading.{IsAtEnd}
 use Rattle.orient_run.specs.Database.{Keeps}
 
 -- Why a run ends with a status, where `unread` are the lines of the input behind those that were read.
@@ -63,10 +63,3 @@ pub record GoesOn (left_old left_new taken_old taken_new : Option (List ℕ)) (r
   pub run : Run (run_start initial_base) said answers now
   pub keeps : Keeps pages history now
   pub gave : Gave taken_old taken_new (answers_text answers)
-
--- a part from the front of a text was given
-pub record GavePart (taken_old taken_new : Option (List ℕ)) (text : List ℕ) : Type 0 where
-  pub part : List ℕ
-  pub left : List ℕ
-  pub parts : text ≡ part ++ left
-  pub gave : Gave taken_old taken_new part

@@ -1,6 +1,5 @@
 -- What the reading of a text as a statement gives.
-use Rattle.std.specs.Prelude.{◌≡◌, ◌≢◌, ℕ, ◌+◌, ◌≤◌, List, ◌∷◌, ◌++◌, length}
-use Rattle.std.specs.List.{AllByRecursion}
+use Rattle.std.specs.Prelude.{ℕ, ◌+◌, ◌≤◌, List, length}
 use Rattle.std.specs.Str.{IsUtf8}
 use Rattle.ori_bytes.specs.declared.rid.Rid.{Rid}
 use Rattle.ori_spec.specs.Statement.{IsInsert, IsSelect}
@@ -18,7 +17,3 @@ abbrev pub IsWithin : List ℕ → Statement → Type 0
 IsWithin text (Insert name value) = IsUtf8 name.now × IsUtf8 value.now × (length name.now + length value.now ≤ length text)
 IsWithin text (Select rid) = Unit {0}
 IsWithin text Unbuilt = Unit {0}
-
--- the text is the front, that byte, and the rest; the front has no such byte
-abbrev pub IsSplitAt : ℕ → List ℕ → List ℕ → List ℕ → Type 0
-IsSplitAt byte text front rest = (text ≡ front ++ byte ∷ rest) × AllByRecursion (λ b. b ≢ byte) front

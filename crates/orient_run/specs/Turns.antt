@@ -5,11 +5,11 @@ use Rattle.ori_spec.specs.Base.{EntryData}
 use Rattle.ori_spec.specs.Line.{LineData}
 use Rattle.ori_spec.specs.Reply.{AnswerData, answer_text}
 use Rattle.ori_spec.specs.Run.{RunData, Step}
-use Rattle.orient_run.specs.declared.line.LineFault.{LineFault}
-use Rattle.orient_run.specs.declared.line.LineFault.TheVariants as faults
+use Rattle.ori_text.specs.declared.line.LineFault.{LineFault}
+use Rattle.ori_text.specs.declared.line.LineFault.TheVariants as faults
 use Rattle.orient_run.specs.declared.run.Turn.{Turn}
 use Rattle.orient_run.specs.declared.run.Turn.TheVariants.{Answered, Ended}
-use Rattle.orient_run.specs.Lines.{Reading}
+use Rattle.ori_text.specs.Lines.{Reading}
 use Rattle.orient_run.specs.Database.{Keeps}
 use Rattle.orient_run.specs.Script.{IsRun, GoesOn}
 

@@ -12,16 +12,16 @@ ghost use Rattle.ori_spec.specs.Reply.{refused, granted, no_memory, to_session};
 ghost use Rattle.ori_spec.specs.Run.{RunData, run_start, Decides, Step};
 ghost use Rattle.orient_run.specs.Records.{fields_of, tree_of, entry_of, entries_of, record_of};
 ghost use Rattle.orient_run.specs.Replies.{reply_of, row_of, answer_of, refusal_of};
-ghost use Rattle.orient_run.specs.LineReading.{line_of};
+ghost use Rattle.ori_text.specs.LineReading.{line_of};
 ghost use Rattle.orient_run.specs.Database.{Keeps, new_record, IsPrepared, IsOneMore, IsInserted, IsStepped, IsShort};
 
 use crate::engine::{Engine, InsertFault};
-use crate::line::Line;
 use crate::model::{Change, ChangeList, Entry, EntryList, Stored, Tx};
 use crate::reply::{Answer, Refusal, Reply, Row, RowList};
 use crate::statement::{Statement, read_statement};
 use crate::value::{FieldList, Value};
 use ori_bytes::{NoMemory, Rid, RidList, Text};
+use ori_text::Line;
 use std::alloc::Global;
 
 /// The pages in memory, and what was committed to them in this run.

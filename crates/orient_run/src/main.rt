@@ -7,7 +7,6 @@
 mod database;
 mod engine;
 mod files;
-mod line;
 mod model;
 mod orient;
 mod outcome;

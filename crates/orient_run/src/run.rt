@@ -1,39 +1,21 @@
 // A script: lines in, answers out.
-ghost use Rattle.std.specs.Prelude.{◌≡◌, ◌≤◌, ◌<◌, OnOk, OnErr, Option, List, ℕ};
+ghost use Rattle.std.specs.Prelude.{◌≡◌, ◌≤◌, ◌<◌, Option, List, ℕ};
 ghost use Rattle.ori_bytes.specs.declared.limits.TheConstants.{MAX_INPUT_BYTES};
-ghost use Rattle.ori_volume.specs.Causes.{HasCause, Rose};
-ghost use Rattle.ori_volume.specs.Streams.{Gave};
+ghost use Rattle.ori_volume.specs.Causes.{Rose};
 ghost use Rattle.orient_run.specs.Records.{entries_of};
 ghost use Rattle.ori_spec.specs.Base.{initial_base};
 ghost use Rattle.ori_spec.specs.Run.{RunData, run_start};
 ghost use Rattle.orient_run.specs.Database.{Keeps, IsShort};
-ghost use Rattle.orient_run.specs.LineReading.{line_of};
-ghost use Rattle.orient_run.specs.Script.{IsRun, GoesOn, GavePart};
+ghost use Rattle.ori_text.specs.LineReading.{line_of};
+ghost use Rattle.orient_run.specs.Script.{IsRun, GoesOn};
 ghost use Rattle.orient_run.specs.Turns.{IsAnswered, IsTurned, fault_status};
 
 use crate::database::Database;
-use crate::line::{Line, LineFault, LineReader};
 use crate::reply::answer_string;
 use crate::status;
+use ori_text::{Line, LineFault, LineReader, print};
 use ori_volume::{Failed, Sink, Source};
 use std::alloc::Global;
-
-/// Gives a text to a sink, all of it. After `Failed` the sink has taken a part from its front.
-pub fn print<K: Sink>(sink: &mut K, text: &str) -> Result<(), Failed>
-    ensures ok { OnOk result (Gave (K.taken sink.old) (K.taken sink.new) text.now) }
-    ensures err { OnErr result (GavePart (K.taken sink.old) (K.taken sink.new) text.now) }
-    ensures cause { HasCause (K.faults sink.old) (K.faults sink.new) result }
-{
-    let bytes = text.as_bytes();
-    let mut done = 0usize;
-    while done < bytes.len() {
-        match sink.write(&bytes[done..]) {
-            Ok(count) => done += count,
-            Err(failed) => return Err(failed),
-        }
-    }
-    Ok(())
-}
 
 // What a line of input led to.
 #[derive(Clone, Copy, Debug, PartialEq, Eq)]

@@ -2,9 +2,9 @@
 use crate::files::FileVolume;
 use crate::orient::{orient, orient_alone};
 use crate::outcome::Outcome;
-use crate::run::print;
 use crate::streams::{StdSink, StdSource};
 use ori_bytes::{Blob, NoMemory, NumberList};
+use ori_text::print;
 use ori_volume::{FileNo, Image, MemSink, MemSource, MemVolume, NoGate, Sink, Source, Volume};
 use std::alloc::Global;
 use std::process::Abort;

@@ -1,5 +1,5 @@
 use Rattle.std.proofs.Common.{ap, arith}
-use Rattle.orient_run.specs.Lines.{Reading}
+use Rattle.ori_text.specs.Lines.{Reading}
 use Rattle.orient_run.proofs.Ends.{started, not_begun}
 use Rattle.orient_run.proofs.run.run_lines.Goals as goal
 

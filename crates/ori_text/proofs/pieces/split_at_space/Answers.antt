@@ -1,0 +1,6 @@
+use Rattle.std.proofs.Common.{arith}
+use Rattle.ori_text.proofs.Cuts.{is_cut}
+use Rattle.ori_text.proofs.pieces.split_at_space.Goals as goal
+
+pub returns : goal.returns
+returns c = is_cut 32 c.args.text.now c.split_once.result c.split_once.ensures.cases (omega arith)

@@ -1,0 +1,6 @@
+pub mod Pieces
+pub mod Lines
+pub mod LineReading
+pub mod LineForms
+pub mod LineSteps
+pub mod Printing
