@@ -26,19 +26,7 @@ Reads-then at (line ∷ lines) others said more stop p q =
       ]
     ]
 
--- behind a line at which reading ends others may stand
-pub Reads-stopped : (at : ℕ) (lines others : List (List ℕ)) (said : List LineData) (stop : StopData) → (stop ≡ at_end → ⊥) → Reads at lines said stop → Reads at (lines ++ others) said stop
-Reads-stopped at [] others said stop ends p = absurd (ends p.1)
-Reads-stopped at (line ∷ lines) others said stop ends p =
-    elim p [
-      | inl skipped ↦ inl (skipped.0, skipped.1, Reads-stopped (at + length line) lines others said stop ends skipped.2)
-      | inr p1 ↦ inr (elim p1 [
-        | inl first ↦ inl (first.0, first.1, first.2, first.3, Reads-stopped (at + length line) lines others first.1 stop ends first.4)
-        | inr p2 ↦ inr p2
-      ])
-    ]
-
-pub true_false : (b : Bool) → IsTrue b → b ≡ false → ⊥
+true_false : (b : Bool) → IsTrue b → b ≡ false → ⊥
 true_false true h e = absurd cc
 true_false false h e = absurd cc
 

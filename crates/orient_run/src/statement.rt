@@ -1,11 +1,10 @@
 // Statements, read by their hand forms: keywords in capitals, one space between tokens.
-ghost use Rattle.std.specs.Prelude.{◌≡◌, ◌≢◌, ◌||◌, ◌+◌, ◌≤◌, ◌++◌, ◌∷◌, [], List, ℕ, ℤ, length, map, codes, IsTrue, IfSome, IfNone, MatchOption};
+ghost use Rattle.std.specs.Prelude.{◌≡◌, ◌≢◌, ◌++◌, ◌∷◌, [], List, ℕ, map, IfSome, IfNone, MatchOption};
 ghost use Rattle.std.specs.Str.{IsUtf8, bytes_eq};
 ghost use Rattle.std.specs.Char.{to_ascii_lowercase};
-ghost use Rattle.std.specs.List.{list_all, list_any};
+ghost use Rattle.std.specs.List.{list_any};
 ghost use Rattle.ori_bytes.specs.declared.rid.Rid.{Rid};
-ghost use Rattle.ori_spec.specs.Apply.{same_bytes};
-ghost use Rattle.ori_spec.specs.Statement.{is_word, is_letter, is_digit, is_keyword, is_reserved, is_field_name, is_plain, capital, keywords, IsInsert, IsSelect, IsLink, IsNumeral, IsSigned};
+ghost use Rattle.ori_spec.specs.Statement.{is_word, is_keyword, is_reserved, is_field_name, is_plain, IsInsert, IsSelect};
 ghost use Rattle.orient_run.specs.Statements.{IsStatement, IsWithin};
 
 use ori_bytes::Rid;
