@@ -9,11 +9,16 @@ use Rattle.ori_spec.specs.Log.{ImageData, image_bytes, body_bytes}
 use Rattle.ori_log.specs.declared.image.PageImage.{PageImage}
 use Rattle.ori_log.specs.Images.{image_data, IsWhole, behind_gate}
 
+pub listed_more : (images : List PageImage) (i : ℕ) (item : PageImage) → i < length images → item ≡ get_or images i item
+    → map image_data (take (i + 1) images) ≡ map image_data (take i images) ++ image_data item ∷ []
+listed_more images i item within is =
+    ap (λ (l : List PageImage). map image_data l) (take_more images i item within ∙ ap (λ (x : PageImage). take i images ++ x ∷ []) (sym is))
+    ∙ map-append image_data (take i images) (item ∷ [])
+
 pub images_more : (images : List PageImage) (i : ℕ) (item : PageImage) → i < length images → item ≡ get_or images i item
     → flat_map image_bytes (map image_data (take (i + 1) images)) ≡ flat_map image_bytes (map image_data (take i images)) ++ image_bytes (image_data item)
 images_more images i item within is =
-    ap (λ (l : List PageImage). flat_map image_bytes (map image_data l)) (take_more images i item within ∙ ap (λ (x : PageImage). take i images ++ x ∷ []) (sym is))
-    ∙ ap (λ (l : List ImageData). flat_map image_bytes l) (map-append image_data (take i images) (item ∷ []))
+    ap (λ (l : List ImageData). flat_map image_bytes l) (listed_more images i item within is)
     ∙ flat_map-append image_bytes (map image_data (take i images)) (image_data item ∷ [])
     ∙ ap (λ (l : List ℕ). flat_map image_bytes (map image_data (take i images)) ++ l) (append-nil (image_bytes (image_data item)))
 

@@ -6,3 +6,11 @@ pub mod Appends
 pub mod Joins
 pub mod Settling
 pub mod Making
+pub mod Records
+pub mod Parts
+pub mod Reading
+pub mod OneTail
+pub mod Entries
+pub mod Told
+pub mod Forms
+pub mod Attaching

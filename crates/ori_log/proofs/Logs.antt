@@ -29,12 +29,12 @@ pub front_split : (xs front : List ℕ) (n : ℕ) → take n xs ≡ front → xs
 front_split xs front n is = sym (take-append-drop n xs) ∙ ap (λ (l : List ℕ). l ++ drop n xs) is
 
 -- the file that a byte names, by cases
-chosen : (test : Bool) (image : Files) → (if test then image.log_a else image.log_b) ≡ of_file image (if test then LogA else LogB)
+pub chosen : (test : Bool) (image : Files) → (if test then image.log_a else image.log_b) ≡ of_file image (if test then LogA else LogB)
 chosen true image = refl
 chosen false image = refl
 
 -- an image whose master names a file that is a log has that tail
-tail_named : (master : List ℕ) (image : Files) (records : List (List ImageData)) → 0 < length master → IsLog (of_file image (file_named (slice_index master 0))) records
+pub tail_named : (master : List ℕ) (image : Files) (records : List (List ImageData)) → 0 < length master → IsLog (of_file image (file_named (slice_index master 0))) records
     → IsTailOf master (files_data image) records
 tail_named [] image records some log = absurd (omega arith)
 tail_named (byte ∷ bytes) image records some log = subst (λ (l : List ℕ). IsLog l records) (sym (chosen (byte % 2 == 0) image)) log

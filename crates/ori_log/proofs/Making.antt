@@ -8,7 +8,7 @@ use Rattle.ori_volume.specs.declared.file.FileNo.{FileNo}
 use Rattle.ori_volume.specs.declared.file.FileNo.TheVariants.{Master, LogA, LogB, Pages}
 use Rattle.ori_volume.specs.Disk.{of_file, with_file, FileData, Disk, Files, files_of, IsFileImage}
 use Rattle.ori_volume.specs.Effects.{put, written}
-use Rattle.ori_volume.specs.Story.{Story}
+use Rattle.ori_volume.specs.Story.{Story, FilesWrite}
 use Rattle.ori_volume.specs.Runs.{Run, EachImage, Lasts}
 use Rattle.ori_volume.proofs.RunSteps.{run_then, run_weaker, run_last, run_writes}
 use Rattle.ori_spec.specs.Log.{FilesData, IsTailOf, AreWhole, pages_at_home}
@@ -17,7 +17,7 @@ use Rattle.ori_log.specs.Opening.{IsFirm, AllFirm, SyncsSound, WritesSound, IsNe
 use Rattle.ori_log.proofs.Stages.{on_err}
 use Rattle.ori_log.proofs.Settling.{Answer, sync_of, Syncing, begins, sync_run, sync_more, firm_synced}
 
-firm_image : (f : FileData) (ys : List ℕ) → IsFirm f → IsFileImage f ys → ys ≡ f.bytes
+pub firm_image : (f : FileData) (ys : List ℕ) → IsFirm f → IsFileImage f ys → ys ≡ f.bytes
 firm_image f ys is image =
     let long : length ys ≡ length f.bytes = omega (arith, image.no_shorter, image.no_longer, is.least, is.greatest) in
     ext_get_or 0 ys f.bytes long (λ k within. image.firm k within (is.firm k))
@@ -156,6 +156,21 @@ sync_b (Err fault) a b c before step = λ is. record {
   logs = tt;
 }
 
+-- the same of the bytes alone
+pub files_logs : (old mid new : Files) → FilesWrite {T = Unit {0}} {E = Failed} LogA 0 Gate (Ok tt) old mid → FilesWrite {T = Unit {0}} {E = Failed} LogB 0 Gate (Ok tt) mid new → IsNew old → HasLogs new
+files_logs old mid new first second is = record {
+  master = omega (arith, ap (λ (f : Files). length f.master) first.elsewhere, ap (λ (f : Files). length f.master) second.elsewhere, ap length is.master);
+  log_a = ap (λ (f : Files). f.log_a) second.elsewhere ∙ first.here ∙ put_first old.log_a CLOSED_GATE is.log_a;
+  log_b =
+      second.here ∙ ap (λ (f : Files). put f.log_b 0 Gate) first.elsewhere ∙ put_first old.log_b CLOSED_GATE is.log_b;
+  pages = ap (λ (f : Files). f.pages) second.elsewhere ∙ ap (λ (f : Files). f.pages) first.elsewhere ∙ is.pages;
+}
+
+pub files_master : (old new : Files) → FilesWrite {T = Unit {0}} {E = Failed} Master 0 (0 ∷ []) (Ok tt) old new → HasLogs old → new ≡ made_files
+files_master old new write logs =
+    write.elsewhere ∙ ap (λ (l : List ℕ). with_file old Master l) (write.here ∙ put_first old.master 0 logs.master)
+    ∙ (λ i. record { master = 0 ∷ []; log_a = logs.log_a i; log_b = logs.log_b i; pages = logs.pages i })
+
 -- ---- the master
 
 master_lasts : (s n : ℕ) → s + n ≤ 1 → Lasts Master s n HasLogs
@@ -241,14 +256,17 @@ one_or_none (x ∷ xs) short = inr (omega arith)
 pub logs_empty : (image : Files) → HasLogs image → IsEmpty image
 logs_empty image logs =
     ⊎_elim (λ (none : image.master ≡ []). inl (record { master = none; log_a = omega (arith, ap length logs.log_a); log_b = omega (arith, ap length logs.log_b); pages = logs.pages }))
-    (λ (one : length image.master ≡ 1). inr (record {
-      master = one;
-      log_a = omega (arith, ap length logs.log_a);
-      log_b = omega (arith, ap length logs.log_b);
-      pages = omega (arith, ap length logs.pages);
-      tail = no_tail image.master (files_data image) logs.log_a logs.log_b;
-      homes = no_homes (files_data image) logs.pages;
-    }))
+    (λ (one : length image.master ≡ 1). inr (
+      record {
+        master = one;
+        log_a = omega (arith, ap length logs.log_a);
+        log_b = omega (arith, ap length logs.log_b);
+        pages = omega (arith, ap length logs.pages);
+        tail = no_tail image.master (files_data image) logs.log_a logs.log_b;
+        homes = no_homes (files_data image) logs.pages;
+      },
+      logs.pages,
+    ))
     (one_or_none image.master logs.master)
 
 new_moments : (a b : Story) → Run (EachImage IsNew) a b → Run (EachImage IsEmpty) a b

@@ -4,3 +4,7 @@ pub mod Staging
 pub mod Logs
 pub mod Appending
 pub mod Opening
+pub mod Tails
+pub mod Forms
+pub mod Measures
+pub mod Attaching

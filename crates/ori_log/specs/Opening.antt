@@ -1,9 +1,9 @@
 -- How a volume is made firm, and a new one made.
-use Rattle.std.specs.Prelude.{◌≡◌, ◌⊎◌, ℕ, ◌≤◌, false, List, [], ◌∷◌, length, Result, OnOk}
+use Rattle.std.specs.Prelude.{◌≡◌, ◌⊎◌, ℕ, ◌+◌, ◌≤◌, false, List, [], ◌∷◌, length, Result, OnOk}
 use Rattle.ori_bytes.specs.declared.limits.TheConstants.{CLOSED_GATE}
 use Rattle.ori_volume.specs.declared.file.FileNo.{FileNo}
 use Rattle.ori_volume.specs.Disk.{of_file, FileData, Disk, Files, files_of, IsImage}
-use Rattle.ori_volume.specs.Story.{Story, Writes, Syncs}
+use Rattle.ori_volume.specs.Story.{Story, moment_of, Writes, Syncs}
 use Rattle.ori_volume.specs.Runs.{Run, EachImage}
 use Rattle.ori_spec.specs.Log.{IsUnmade, IsMade}
 use Rattle.ori_log.specs.Files.{files_data}
@@ -26,17 +26,19 @@ pub record WritesSound {T E : Type 0} (file : FileNo) (bytes : List ℕ) (result
   pub sound : IsImage old.now.disk (files_of old.now.disk)
   pub writes : Writes file 0 bytes result old new
 
--- A crash leaves what it might have left before, and at Ok all is firm.
+-- A crash leaves what it might have left before, and at most four moments end. At Ok all is firm, and reads as it did.
 pub record Settles {T E : Type 0} (result : Result T E) (old new : Story) : Type 0 where
   pub moments : Run (EachImage (λ image. IsImage old.now.disk image)) old new
+  pub soon : moment_of new ≤ moment_of old + 4
   pub firm : OnOk result (AllFirm new.now.disk)
+  pub reads : OnOk result (files_of new.now.disk ≡ files_of old.now.disk)
 
 -- an image of a volume that isn't made yet, and one of a volume without records or pages
 abbrev pub IsNew : Files → Type 0
 IsNew image = IsUnmade (files_data image)
 
 abbrev pub IsEmpty : Files → Type 0
-IsEmpty image = IsNew image ⊎ IsMade (files_data image) []
+IsEmpty image = IsNew image ⊎ (IsMade (files_data image) [] × (image.pages ≡ []))
 
 -- both logs are closed at their start, and there is no page; the master is a byte at most
 pub record HasLogs (image : Files) : Type 0 where

@@ -1,8 +1,9 @@
 // Why the log refuses.
 ghost use Rattle.std.specs.Prelude.{◌≡◌};
-ghost use Rattle.ori_log.specs.declared.fault.LogFault.TheVariants.{Failed};
+ghost use Rattle.ori_log.specs.declared.fault.LogFault.TheVariants.{Failed, NoMemory};
 
 use ori_volume::FileNo;
+use std::alloc::AllocFailed;
 use thiserror::Error;
 
 /// Why a call on the log failed.
@@ -27,5 +28,21 @@ impl From<ori_volume::Failed> for LogFault {
 
     fn from(_: ori_volume::Failed) -> Self {
         LogFault::Failed
+    }
+}
+
+impl From<ori_bytes::NoMemory> for LogFault {
+    ghost from_gives = { λ _ fault. fault ≡ NoMemory };
+
+    fn from(_: ori_bytes::NoMemory) -> Self {
+        LogFault::NoMemory
+    }
+}
+
+impl<T: Drop> From<AllocFailed<T>> for LogFault {
+    ghost from_gives = { λ _ fault. fault ≡ NoMemory };
+
+    fn from(_: AllocFailed<T>) -> Self {
+        LogFault::NoMemory
     }
 }

@@ -34,6 +34,15 @@ fn each_below_256(bytes: &[u8]) -> &[u8]
     bytes
 }
 
+// Each content is a whole page.
+fn all_whole(images: &[PageImage])
+    ensures { AllByRecursion IsWhole (map image_data images.now) }
+{
+    for image in images {
+        let _bytes = image.bytes();
+    }
+}
+
 /// A list of pages as a commit leaves them.
 #[derive(Debug, Drop)]
 pub struct ImageList {
@@ -61,6 +70,21 @@ impl ImageList {
         ImageList {
             images: Vec::new(alloc),
         }
+    }
+
+    /// Owns a `Vec`; takes no memory.
+    pub fn from_vec(images: Vec<PageImage>) -> Self
+        ensures { result ≡ map image_data images.items }
+    {
+        all_whole(&images);
+        ImageList { images }
+    }
+
+    /// Gives the `Vec` back.
+    pub fn into_vec(self) -> Vec<PageImage>
+        ensures { map image_data result.items ≡ self }
+    {
+        self.images
     }
 
     /// Adds an image at the end. Where memory is wanting the list is unchanged, and the image is let go.

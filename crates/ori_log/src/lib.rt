@@ -4,11 +4,15 @@
 //! from before it, or those and the new one. No checksum is used.
 #![tactic(auto)]
 
+mod attach;
 mod fault;
+mod form;
 mod image;
 mod log;
 mod opening;
+mod sizes;
 mod stage;
+mod tail;
 
 pub use fault::LogFault;
 pub use image::{ImageList, PageImage};

@@ -69,9 +69,11 @@ impl Log {
         ensures full { room_of self.old < need_of images.now → (result ≡ Err (LogFault.LogFull (need_of images.now) (room_of self.old)))
             × (self.new ≡ self.old) × (volume.new ≡ volume.old) }
         ensures fits { need_of images.now ≤ room_of self.old → OnErr result (result ≡ Err LogFault.Failed) }
+        ensures counts { OnOk result ((self.new.tail ≡ self.old.tail + 1) × (self.new.place ≡ self.old.place + (need_of images.now - 1)) × (self.new.file ≡ self.old.file)) }
         ensures crash { Tells (Appends self.old self.new images.now result) (V.story volume.old) (V.story volume.new) }
         ensures faults { FailsAs LogFault.Failed (V.faults volume.old) (V.faults volume.new) result }
         ensures log_faults { FailsAs LogFault.Failed (V.log_faults volume.old) (V.log_faults volume.new) result }
+        ensures log_fine { OnOk result (V.log_faults volume.new ≡ V.log_faults volume.old) }
     {
         let need = 10 + IMAGE_BYTES * images.len() as u64;
         let room = self.room();
@@ -93,6 +95,7 @@ impl Log {
         ensures crash { Tells (WritesBody self.old.file self.old.place images.now result) (V.story volume.old) (V.story volume.new) }
         ensures faults { HasCause (V.faults volume.old) (V.faults volume.new) result }
         ensures log_faults { HasCause (V.log_faults volume.old) (V.log_faults volume.new) result }
+        ensures log_fine { OnOk result (V.log_faults volume.new ≡ V.log_faults volume.old) }
     {
         let file = self.file;
         self.stage.begin(self.place + 1);
@@ -106,6 +109,7 @@ impl Log {
         ensures crash { Tells (OpensGate self.old.file self.old.place result) (V.story volume.old) (V.story volume.new) }
         ensures faults { HasCause (V.faults volume.old) (V.faults volume.new) result }
         ensures log_faults { HasCause (V.log_faults volume.old) (V.log_faults volume.new) result }
+        ensures log_fine { OnOk result (V.log_faults volume.new ≡ V.log_faults volume.old) }
     {
         volume.write_at(self.file, self.place, &[OPEN_GATE])?;
         volume.sync(self.file)

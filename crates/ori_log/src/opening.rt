@@ -1,8 +1,9 @@
 // What makes a volume firm, and a new one.
-ghost use Rattle.std.specs.Prelude.{◌≡◌, ◌+◌, ◌≤◌, ◌∷◌, [], length};
+ghost use Rattle.std.specs.Prelude.{◌≡◌, ◌+◌, ◌≤◌, ◌∷◌, [], length, Some, IfSome, OnOk};
 ghost use Rattle.ori_volume.specs.Causes.{HasCause};
-ghost use Rattle.ori_volume.specs.Story.{Tells};
-ghost use Rattle.ori_log.specs.Opening.{SyncsSound, WritesSound, Settles, MakesLogs, MakesMaster, Makes};
+ghost use Rattle.ori_volume.specs.Disk.{Files};
+ghost use Rattle.ori_volume.specs.Story.{Tells, FilesWrite};
+ghost use Rattle.ori_log.specs.Opening.{IsNew, HasLogs, made_files, SyncsSound, WritesSound, Settles, MakesLogs, MakesMaster, Makes};
 
 use ori_bytes::limits::{CLOSED_GATE, MAX_FILE_BYTES};
 use ori_volume::{Failed, FileNo, Volume};
@@ -20,6 +21,7 @@ fn sync_one<V: Volume>(volume: &mut V, file: FileNo) -> Result<(), Failed>
 }
 
 fn write_first<V: Volume>(volume: &mut V, file: FileNo, byte: u8) -> Result<(), Failed>
+    ensures files { Tells (FilesWrite file 0 (byte ∷ []) result) (V.files volume.old) (V.files volume.new) }
     ensures crash { Tells (WritesSound file (byte ∷ []) result) (V.story volume.old) (V.story volume.new) }
     ensures faults { HasCause (V.faults volume.old) (V.faults volume.new) result }
     ensures log_faults { V.log_faults volume.old ≤ V.log_faults volume.new }
@@ -42,6 +44,7 @@ pub fn settle<V: Volume>(volume: &mut V) -> Result<(), Failed>
 
 // Makes two logs without records.
 fn make_logs<V: Volume>(volume: &mut V) -> Result<(), Failed>
+    ensures files { OnOk result (Tells (λ old new. IsNew old → HasLogs new) (V.files volume.old) (V.files volume.new)) }
     ensures crash { Tells (MakesLogs result) (V.story volume.old) (V.story volume.new) }
     ensures faults { HasCause (V.faults volume.old) (V.faults volume.new) result }
     ensures log_faults { V.log_faults volume.old ≤ V.log_faults volume.new }
@@ -54,6 +57,7 @@ fn make_logs<V: Volume>(volume: &mut V) -> Result<(), Failed>
 
 // Makes the master, which names the first log.
 fn make_master<V: Volume>(volume: &mut V) -> Result<(), Failed>
+    ensures files { OnOk result (Tells (λ old new. HasLogs old → new ≡ made_files) (V.files volume.old) (V.files volume.new)) }
     ensures crash { Tells (MakesMaster result) (V.story volume.old) (V.story volume.new) }
     ensures faults { HasCause (V.faults volume.old) (V.faults volume.new) result }
     ensures log_faults { V.log_faults volume.old ≤ V.log_faults volume.new }
@@ -64,6 +68,7 @@ fn make_master<V: Volume>(volume: &mut V) -> Result<(), Failed>
 
 /// Makes the files of an empty volume. The logs are firm before the master names one of them.
 pub fn make<V: Volume>(volume: &mut V) -> Result<(), Failed>
+    ensures files { OnOk result (Tells (λ old new. IsNew old → new ≡ made_files) (V.files volume.old) (V.files volume.new)) }
     ensures crash { Tells (Makes result) (V.story volume.old) (V.story volume.new) }
     ensures faults { HasCause (V.faults volume.old) (V.faults volume.new) result }
     ensures log_faults { V.log_faults volume.old ≤ V.log_faults volume.new }

@@ -63,6 +63,7 @@ impl Stage {
         ensures crash { Tells (Stages file self.old self.new [] result) (V.story volume.old) (V.story volume.new) }
         ensures faults { HasCause (V.faults volume.old) (V.faults volume.new) result }
         ensures log_faults { HasCause (V.log_faults volume.old) (V.log_faults volume.new) result }
+        ensures log_fine { OnOk result (V.log_faults volume.new ≡ V.log_faults volume.old) }
     {
         volume.write_at(file, self.at, &self.buffer[..self.filled])?;
         self.at += self.filled as u64;
@@ -86,6 +87,7 @@ impl Stage {
         ensures crash { Tells (Stages file self.old self.new [] result) (V.story volume.old) (V.story volume.new) }
         ensures faults { HasCause (V.faults volume.old) (V.faults volume.new) result }
         ensures log_faults { HasCause (V.log_faults volume.old) (V.log_faults volume.new) result }
+        ensures log_fine { OnOk result (V.log_faults volume.new ≡ V.log_faults volume.old) }
     {
         if count <= STAGE_BYTES - self.filled {
             return Ok(());
@@ -120,6 +122,7 @@ impl Stage {
         ensures crash { Tells (Stages file self.old self.new bytes.now result) (V.story volume.old) (V.story volume.new) }
         ensures faults { HasCause (V.faults volume.old) (V.faults volume.new) result }
         ensures log_faults { HasCause (V.log_faults volume.old) (V.log_faults volume.new) result }
+        ensures log_fine { OnOk result (V.log_faults volume.new ≡ V.log_faults volume.old) }
     {
         self.make_room(volume, file, bytes.len())?;
         self.copy(bytes);
@@ -140,6 +143,7 @@ impl Stage {
         ensures crash { Tells (Stages file self.old self.new (image_bytes (image_data image.now)) result) (V.story volume.old) (V.story volume.new) }
         ensures faults { HasCause (V.faults volume.old) (V.faults volume.new) result }
         ensures log_faults { HasCause (V.log_faults volume.old) (V.log_faults volume.new) result }
+        ensures log_fine { OnOk result (V.log_faults volume.new ≡ V.log_faults volume.old) }
     {
         self.put(volume, file, &image.page.to_be_bytes())?;
         self.put(volume, file, image.bytes())
@@ -159,6 +163,7 @@ impl Stage {
         ensures crash { Tells (Stages file self.old self.new (flat_map image_bytes (map image_data images.now)) result) (V.story volume.old) (V.story volume.new) }
         ensures faults { HasCause (V.faults volume.old) (V.faults volume.new) result }
         ensures log_faults { HasCause (V.log_faults volume.old) (V.log_faults volume.new) result }
+        ensures log_fine { OnOk result (V.log_faults volume.new ≡ V.log_faults volume.old) }
     {
         for image in images {
             self.put_image(volume, file, image)?;
@@ -182,6 +187,7 @@ impl Stage {
             (V.story volume.old) (V.story volume.new) }
         ensures faults { HasCause (V.faults volume.old) (V.faults volume.new) result }
         ensures log_faults { HasCause (V.log_faults volume.old) (V.log_faults volume.new) result }
+        ensures log_fine { OnOk result (V.log_faults volume.new ≡ V.log_faults volume.old) }
     {
         let body = 4 + IMAGE_BYTES as u32 * count;
         self.put(volume, file, &body.to_be_bytes())?;
@@ -198,6 +204,7 @@ impl Stage {
         ensures crash { Tells (Stages file self.old self.new (CLOSED_GATE ∷ []) result) (V.story volume.old) (V.story volume.new) }
         ensures faults { HasCause (V.faults volume.old) (V.faults volume.new) result }
         ensures log_faults { HasCause (V.log_faults volume.old) (V.log_faults volume.new) result }
+        ensures log_fine { OnOk result (V.log_faults volume.new ≡ V.log_faults volume.old) }
     {
         self.put(volume, file, &[CLOSED_GATE])?;
         self.flush(volume, file)
@@ -218,6 +225,7 @@ impl Stage {
         ensures crash { Tells (Stages file self.old self.new (behind_gate images.now) result) (V.story volume.old) (V.story volume.new) }
         ensures faults { HasCause (V.faults volume.old) (V.faults volume.new) result }
         ensures log_faults { HasCause (V.log_faults volume.old) (V.log_faults volume.new) result }
+        ensures log_fine { OnOk result (V.log_faults volume.new ≡ V.log_faults volume.old) }
     {
         self.put_head(volume, file, images.len() as u32)?;
         self.put_images(volume, file, images.as_slice())?;

@@ -55,6 +55,10 @@ IsTailOf (byte ∷ bytes) files records = IsLog (active_log byte files) records
 abbrev pub IsTail : FilesData → List (List ImageData) → Type 0
 IsTail files records = IsTailOf files.master files records
 
+-- the bytes that a log with these records has room for: a further record's gate, length, body and the gate behind it
+abbrev pub room_behind : List (List ImageData) → ℕ
+room_behind records = MAX_LOG_BYTES - length (flat_map record_bytes records)
+
 -- ---- pages
 
 abbrev pub images_of : List (List ImageData) → List ImageData
@@ -102,7 +106,7 @@ pub record IsUnmade (files : FilesData) : Type 0 where
   pub log_b : length files.log_b ≤ 1
   pub pages : files.pages ≡ []
 
--- each page that the records don't name is whole at home, or isn't there at all
+-- each page of the list that the records don't name is whole at home
 abbrev pub AreWhole : FilesData → List (List ImageData) → Type 0
 AreWhole files records = (page : ℕ) → page < max (pages_named (images_of records)) (pages_at_home files.pages)
     → last_image page (images_of records) ≡ None → PAGE_BYTES * (page + 1) ≤ length files.pages

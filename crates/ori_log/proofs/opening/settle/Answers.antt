@@ -1,3 +1,4 @@
+use Rattle.std.proofs.Common.{arith}
 use Rattle.ori_volume.specs.declared.file.FileNo.TheVariants.{LogA, LogB}
 use Rattle.ori_log.proofs.Stages.{tells_map, tells_then}
 use Rattle.ori_log.proofs.Settling.{sync_of, AfterOne, AfterTwo, AfterThree, first_fails, one_synced, two_synced, three_synced, settle_fails, settle_ends}
@@ -12,7 +13,7 @@ pub returns-in_err-sync_one-2-clause-crash : goal.returns-in_err-sync_one-2-clau
 returns-in_err-sync_one-2-clause-crash g c =
     tells_then AfterOne _ _ _ _ _
     (λ a b d before step.
-    settle_fails (λ disk. sync_of Master disk) LogA c.in_err-sync_one-2.field-0.0 c.from_residual-in_err-sync_one-2.result a b d c.from_residual-in_err-sync_one-2.ensures.0 before step)
+    settle_fails 1 (λ disk. sync_of Master disk) LogA c.in_err-sync_one-2.field-0.0 c.from_residual-in_err-sync_one-2.result a b d (omega arith) c.from_residual-in_err-sync_one-2.ensures.0 before step)
     (tells_map _ AfterOne _ _ (λ a b told step. one_synced a b step) c.in_ok-sync_one.ensures.crash)
     c.in_err-sync_one-2.ensures.crash
 
@@ -20,7 +21,7 @@ pub returns-in_err-sync_one-3-clause-crash : goal.returns-in_err-sync_one-3-clau
 returns-in_err-sync_one-3-clause-crash g c =
     tells_then AfterTwo _ _ _ _ _
     (λ a b d before step.
-    settle_fails (λ disk. sync_of LogA (sync_of Master disk)) LogB c.in_err-sync_one-3.field-0.0 c.from_residual-in_err-sync_one-3.result a b d c.from_residual-in_err-sync_one-3.ensures.0 before
+    settle_fails 2 (λ disk. sync_of LogA (sync_of Master disk)) LogB c.in_err-sync_one-3.field-0.0 c.from_residual-in_err-sync_one-3.result a b d (omega arith) c.from_residual-in_err-sync_one-3.ensures.0 before
     step)
     (tells_then AfterOne _ AfterTwo _ _ _ (λ a b d before step. two_synced a b d before step)
     (tells_map _ AfterOne _ _ (λ a b told step. one_synced a b step) c.in_ok-sync_one.ensures.crash) c.in_ok-sync_one-2.ensures.crash)

@@ -52,3 +52,9 @@ returns-clause-crash g c =
     (omega (arith, place, c.len.ensures.value, length-behind c.args.images.now c.len.ensures.whole)) (omega (arith, tail)) body
     (opens_there c.args.self.now c.write_body.new.self (Ok tt) mid new (c.in_ok-write_body.ensures.same).0 (c.in_ok-write_body.ensures.same).1 gate))
     c.in_ok-write_body.ensures.crash c.in_ok-open_gate.ensures.crash
+
+pub returns-clause-counts : goal.returns-clause-counts
+returns-clause-counts g c =
+    let place : c.open_gate.new.self.place ≡ c.args.self.now.place = ap (λ l. l.place) c.in_ok-open_gate.ensures.same ∙ (c.in_ok-write_body.ensures.same).1 in
+    let tail : c.open_gate.new.self.tail ≡ c.args.self.now.tail = ap (λ l. l.tail) c.in_ok-open_gate.ensures.same ∙ (c.in_ok-write_body.ensures.same).2 in
+    (omega (arith, tail), omega (arith, place, c.len.ensures.value, length-body c.args.images.now c.len.ensures.whole), ap (λ l. l.file) c.in_ok-open_gate.ensures.same ∙ (c.in_ok-write_body.ensures.same).0)

@@ -1,4 +1,4 @@
-use Rattle.std.proofs.Common.{ℕ, List, map, flat_map, take, arith, sym, subst, Ok}
+use Rattle.std.proofs.Common.{ℕ, List, map, flat_map, take, arith, sym, ◌∙◌, subst, Ok}
 use Rattle.ori_volume.specs.declared.failed.Failed.{Failed}
 use Rattle.ori_volume.specs.Story.{Tells}
 use Rattle.ori_spec.specs.Log.{image_bytes}
@@ -30,5 +30,5 @@ loop-image-preserved g c = record {
       subst (λ (l : List ℕ). Tells (Stages {T = Unit {0}} {E = Failed} c.args.file c.args.self.now c.put_image.new.self l (Ok tt)) (g.V.Volume.story c.args.volume.now) (g.V.Volume.story c.put_image.new.volume))
       (sym (images_more c.args.images.now c.loop-image.image-index c.image-item.result c.loop-image-test.true c.image-item.is)) done;
   faults = omega (arith, c.in_ok-put_image.ensures.faults.later);
-  log_faults = omega (arith, c.in_ok-put_image.ensures.log_faults.later);
+  log_faults = c.in_ok-put_image.ensures.log_fine ∙ c.loop-image.invariant.log_faults;
 }

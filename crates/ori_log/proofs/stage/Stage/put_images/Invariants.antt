@@ -13,5 +13,5 @@ invariant-loop-image g l = record {
   later : l.fn.self.at ≤ l.self.at;
   crash : Tells (Stages {T = Unit {0}} {E = Failed} l.file l.fn.self l.self (flat_map image_bytes (map image_data (take l.image-index l.images))) (Ok tt)) (g.V.Volume.story l.fn.volume) (g.V.Volume.story l.volume);
   faults : g.V.Volume.faults l.fn.volume ≤ g.V.Volume.faults l.volume;
-  log_faults : g.V.Volume.log_faults l.fn.volume ≤ g.V.Volume.log_faults l.volume;
+  log_faults : g.V.Volume.log_faults l.volume ≡ g.V.Volume.log_faults l.fn.volume;
 }
