@@ -1,4 +1,5 @@
 pub mod NoFloats
 mod WorkedRows
 mod Histories
+pub mod OneReading
 mod WorkedRecord

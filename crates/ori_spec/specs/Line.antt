@@ -1,5 +1,5 @@
 -- The input as lines: which bytes are lines, what each says, and where reading them ends.
-use Rattle.std.specs.Prelude.{◌≡◌, ◌≢◌, ◌⊎◌, ℕ, ◌+◌, ◌<◌, ◌≤◌, Bool, false, ◌||◌, ◌==◌, nat_lt, nat_eq, if◌then◌else◌, List, [], ◌∷◌, ◌++◌, length, flat_map, codes, IsTrue, decimal}
+use Rattle.std.specs.Prelude.{◌≡◌, ◌≢◌, ◌⊎◌, ℕ, ◌+◌, ◌<◌, ◌≤◌, Bool, true, false, ◌||◌, ◌==◌, nat_lt, nat_eq, if◌then◌else◌, List, [], ◌∷◌, ◌++◌, length, flat_map, codes, IsTrue, decimal}
 use Rattle.std.specs.List.{starts_with, AllByRecursion}
 use Rattle.std.specs.Str.{IsUtf8}
 use Rattle.ori_bytes.specs.declared.rid.Rid.{Rid}
@@ -123,3 +123,7 @@ Reads at (line ∷ lines) said stop =
     ⊎ (IsMalformed line (at + length line) × (said ≡ []) × (stop ≡ at_bad_line))
     ⊎ (IsTrue (is_too_long line) × (said ≡ []) × (stop ≡ at_bad_line))
     ⊎ ((is_too_long line ≡ false) × (MAX_INPUT_BYTES < at + length line) × (said ≡ []) × (stop ≡ at_limit))
+
+-- input that ends, each of whose lines has one of the forms
+abbrev pub IsValid : List ℕ → Type 0
+IsValid input = (lines : List (List ℕ)) × (said : List LineData) × Gives true input lines × Reads 0 lines said at_end

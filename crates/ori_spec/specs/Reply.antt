@@ -1,5 +1,5 @@
 -- Replies as data, and their texts.
-use Rattle.std.specs.Prelude.{ℕ, ℤ, List, [], ◌∷◌, ◌++◌, flat_map, codes, decimal, Result, Ok, Err}
+use Rattle.std.specs.Prelude.{ℕ, ℤ, Bool, true, false, List, [], ◌∷◌, ◌++◌, flat_map, codes, decimal, Result, Ok, Err}
 use Rattle.std.specs.Fmt.{signed_decimal}
 use Rattle.ori_bytes.specs.declared.rid.Rid.{Rid}
 use Rattle.ori_spec.specs.Value.{Fields}
@@ -11,12 +11,21 @@ pub data RefusalData : Type 0 where
   unbuilt : RefusalData
   -- a cluster has given all its positions
   cluster_full : ℤ → RefusalData
+  -- the log needs more bytes for the commit than it has room for
+  log_full : ℕ → ℕ → RefusalData
+  -- the log failed before, when so many calls of the volume had failed
+  halted : ℕ → RefusalData
+  -- the volume failed
+  fault : RefusalData
   -- memory was wanting
   no_memory : RefusalData
 
 abbrev pub refusal_text : RefusalData → List ℕ
 refusal_text unbuilt = codes "Unbuilt"
 refusal_text (cluster_full cluster) = codes "ClusterFull " ++ signed_decimal cluster
+refusal_text (log_full need room) = codes "LogFull " ++ decimal need ++ 32 ∷ decimal room
+refusal_text (halted faults) = codes "Halted " ++ decimal faults
+refusal_text fault = codes "Fault"
 refusal_text no_memory = codes "NoMemory"
 
 -- the rows, by their columns; the temporary identifiers of a commit beside the real ones; a count, or why it was refused
@@ -51,6 +60,20 @@ answer_text (to_step refusal) = codes "! ERR " ++ refusal_text refusal ++ 10 ∷
 
 abbrev pub answers_text : List AnswerData → List ℕ
 answers_text answers = flat_map answer_text answers
+
+-- the refusals that a volume which doesn't fail never brings
+abbrev pub is_fault : Result ℕ RefusalData → Bool
+is_fault (Ok n) = false
+is_fault (Err unbuilt) = false
+is_fault (Err (cluster_full cluster)) = false
+is_fault (Err (log_full need room)) = false
+is_fault (Err (halted faults)) = true
+is_fault (Err fault) = true
+is_fault (Err no_memory) = false
+
+abbrev pub tells_fault : AnswerData → Bool
+tells_fault (to_session session reply) = is_fault reply.told
+tells_fault (to_step refusal) = false
 
 -- a refused statement has no row
 abbrev pub refused : RefusalData → ReplyData

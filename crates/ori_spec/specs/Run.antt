@@ -1,38 +1,82 @@
 -- A run: which answers the lines of a script may have, one after the other, and what they leave.
-use Rattle.std.specs.Prelude.{◌≡◌, ◌⊎◌, ℕ, pos, List, [], ◌∷◌, ◌++◌, length, Option, Some, None}
+use Rattle.std.specs.Prelude.{◌≡◌, ◌⊎◌, ℕ, ◌+◌, ◌-◌, ◌*◌, pos, Bool, true, false, nat_lt, if◌then◌else◌, List, [], ◌∷◌, ◌++◌, length, Option, Some, None}
+use Rattle.std.specs.List.{list_any}
 use Rattle.ori_bytes.specs.declared.rid.Rid.{Rid}
+use Rattle.ori_bytes.specs.declared.limits.TheConstants.{PAGE_BYTES}
 use Rattle.ori_spec.specs.Value.{Fields}
-use Rattle.ori_spec.specs.Base.{BaseData, TxData, EntryData, commit}
+use Rattle.ori_spec.specs.Base.{BaseData, ChangeData, create, update, delete, touch, TxData, EntryData, commit}
 use Rattle.ori_spec.specs.Apply.{fresh, apply_tx, cluster_without_room}
 use Rattle.ori_spec.specs.Statement.{MeaningData, not_built, answered, pending, Means, rows_at}
 use Rattle.ori_spec.specs.Line.{LineData, statement, tries, step}
-use Rattle.ori_spec.specs.Reply.{unbuilt, cluster_full, no_memory, ReplyData, AnswerData, to_session, to_step, refused, granted}
+use Rattle.ori_spec.specs.Reply.{unbuilt, cluster_full, log_full, halted, fault, no_memory, ReplyData, AnswerData, to_session, to_step, refused, granted}
 
--- what a run has made so far
+-- What a run has made so far: the base; the history; the entries whose own write failed, each with the length that the history
+-- had; whether the log has failed, with the number of calls of the volume that had failed then; and the bytes that the log has
+-- room for.
 pub record RunData : Type 0 where
   pub base : BaseData
   pub history : List EntryData
+  pub doubtful : List (ℕ × EntryData)
+  pub halted : Option ℕ
+  pub room : ℕ
 
-abbrev pub run_start : BaseData → RunData
-run_start base = record { base = base; history = [] }
+abbrev pub run_start : BaseData → ℕ → RunData
+run_start base room = record { base = base; history = []; doubtful = []; halted = None; room = room }
+
+-- ---- what a commit takes of the log
+
+abbrev pub makes_record : ChangeData → Bool
+makes_record (create temp class fields) = true
+makes_record (update rid version fields) = false
+makes_record (delete rid version) = false
+makes_record (touch rid version) = false
+
+-- the pages that a transaction changes: each change is of one record's page, and new records are counted on page 0
+abbrev pub pages_changed : List ChangeData → ℕ
+pages_changed changes = length changes + (if list_any makes_record changes then 1 else 0)
+
+-- the bytes of its log record with the gate before it and the gate behind it
+abbrev pub log_need : TxData → ℕ
+log_need tx = 1 + 4 + (4 + pages_changed tx.changes * (4 + PAGE_BYTES)) + 1
 
 -- the rows of new records, as they stand in the base
 abbrev pub rows_of_new : BaseData → List Rid → List Fields
 rows_of_new base [] = []
 rows_of_new base (rid ∷ rids) = rows_at base rid ++ rows_of_new base rids
 
--- what is pending is decided on the base: a cluster has no room, or it is accepted and joins the history
-abbrev pub Decides : RunData → ℕ → TxData → Option ℕ → ReplyData → RunData → Type 0
-Decides old session tx (Some cluster) reply new = (reply ≡ refused (cluster_full (pos cluster))) × (new ≡ old)
-Decides old session tx None reply new =
-    (reply ≡ granted (rows_of_new (apply_tx old.base tx) (fresh old.base tx)) (length (fresh old.base tx)))
-    × (new ≡ record { base = apply_tx old.base tx; history = old.history ++ commit session tx (fresh old.base tx) ∷ [] })
+-- The commit is accepted and joins the history; or its write to the log failed, so that it may have been made or not, and the
+-- log is halted.
+abbrev pub Commits : RunData → ℕ → TxData → ReplyData → RunData → Type 0
+Commits old session tx reply new =
+    ((reply ≡ granted (rows_of_new (apply_tx old.base tx) (fresh old.base tx)) (length (fresh old.base tx)))
+    × (new ≡ record old { base = apply_tx old.base tx; history = old.history ++ commit session tx (fresh old.base tx) ∷ []; room = old.room - (log_need tx - 1) }))
+    ⊎ ((reply ≡ refused fault)
+    × ((faults : ℕ) × (new ≡ record old { doubtful = old.doubtful ++ (length old.history, commit session tx (fresh old.base tx)) ∷ []; halted = Some faults })))
+
+-- the log has no room for it, or it commits
+abbrev pub DecidesByRoom : RunData → ℕ → TxData → Bool → ReplyData → RunData → Type 0
+DecidesByRoom old session tx true reply new = (reply ≡ refused (log_full (log_need tx) old.room)) × (new ≡ old)
+DecidesByRoom old session tx false reply new = Commits old session tx reply new
+
+-- a cluster has no room for its new records, or the log decides
+abbrev pub DecidesByBase : RunData → ℕ → TxData → Option ℕ → ReplyData → RunData → Type 0
+DecidesByBase old session tx (Some cluster) reply new = (reply ≡ refused (cluster_full (pos cluster))) × (new ≡ old)
+DecidesByBase old session tx None reply new = DecidesByRoom old session tx (nat_lt old.room (log_need tx)) reply new
+
+-- the log is halted, or the base decides
+abbrev pub DecidesBy : RunData → ℕ → TxData → Option ℕ → ReplyData → RunData → Type 0
+DecidesBy old session tx (Some faults) reply new = (reply ≡ refused (halted faults)) × (new ≡ old)
+DecidesBy old session tx None reply new = DecidesByBase old session tx (cluster_without_room old.base tx) reply new
+
+-- what is pending is decided in this order
+abbrev pub Decides : RunData → ℕ → TxData → ReplyData → RunData → Type 0
+Decides old session tx reply new = DecidesBy old session tx old.halted reply new
 
 -- the reply to a statement, by what it means
 abbrev pub Replies : RunData → ℕ → MeaningData → ReplyData → RunData → Type 0
 Replies old session not_built reply new = (reply ≡ refused unbuilt) × (new ≡ old)
 Replies old session (answered rows) reply new = (reply ≡ granted rows (length rows)) × (new ≡ old)
-Replies old session (pending tx) reply new = Decides old session tx (cluster_without_room old.base tx) reply new
+Replies old session (pending tx) reply new = Decides old session tx reply new
 
 -- One line, its answer and what it leaves. Want of memory may take the place of any reply to a session, and leaves all as it was.
 abbrev pub Step : RunData → LineData → AnswerData → RunData → Type 0

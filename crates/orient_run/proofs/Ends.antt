@@ -1,12 +1,14 @@
 -- How a run goes on after a line, and what stands where it ends.
-use Rattle.std.proofs.Common.{◌≡◌, ℕ, ◌+◌, Bool, true, false, List, [], ◌∷◌, ◌++◌, length, Option, refl, sym, ap, ◌∙◌, append_assoc, inl, inr, arith, subst, IsTrue, decimal}
+use Rattle.std.specs.Prelude.{Any, IsSome}
+use Rattle.std.proofs.Common.{◌≡◌, ◌⊎◌, ℕ, zero, suc, ◌+◌, ◌<◌, Bool, true, false, List, [], ◌∷◌, ◌++◌, length, get_or, Option, None, option_map, refl, sym, ap, ◌∙◌, append_assoc, inl, inr, arith, subst, IsTrue, decimal}
 use Rattle.std.proofs.lemmas.List.{append-nil, length-append}
 use Rattle.std.proofs.lemmas.Bool.{ltb-false}
+use Rattle.ori_volume.specs.Disk.{Files}
 use Rattle.ori_volume.specs.Streams.{Gave}
 use Rattle.ori_volume.proofs.Pieces.{took_nothing, gave_nothing, gave_more}
-use Rattle.ori_spec.specs.Base.{initial_base, EntryData}
+use Rattle.ori_spec.specs.Base.{BaseData, EntryData}
 use Rattle.ori_spec.specs.Line.{LineData, statement, tries, step, StopData, at_end, at_bad_line, at_limit, Splits, Gives, Reads, IsSaid}
-use Rattle.ori_spec.specs.Reply.{AnswerData, answer_text, answers_text}
+use Rattle.ori_spec.specs.Reply.{AnswerData, answer_text, answers_text, tells_fault}
 use Rattle.ori_spec.specs.Run.{RunData, run_start, Run}
 use Rattle.ori_text.specs.declared.line.Line.{Line}
 use Rattle.ori_text.specs.declared.line.LineFault.{LineFault}
@@ -15,8 +17,15 @@ use Rattle.orient_run.specs.declared.run.Turn.{Turn}
 use Rattle.orient_run.specs.declared.run.Turn.TheVariants.{Answered, Ended}
 use Rattle.ori_text.specs.Lines.{Reading, joined, AreWhole, HasLast}
 use Rattle.ori_text.specs.LineReading.{Moves, HoldsPart, IsLine, IsEndOfInput, IsSourceFault, IsFault, line_of}
-use Rattle.orient_run.specs.Database.{Keeps, IsShort}
-use Rattle.orient_run.specs.Script.{Ends, IsRun, GoesOn}
+use Rattle.ori_spec.specs.Stage.{IsSound, StandFor}
+use Rattle.orient_run.specs.Crash.{doubts}
+use Rattle.orient_run.specs.Opening.{Finds}
+use Rattle.orient_run.specs.declared.database.Database.{Database}
+use Rattle.orient_run.specs.declared.model.Entry.{Entry}
+use Rattle.orient_run.specs.Records.{entry_of, entries_of}
+use Rattle.orient_run.specs.Engine.{StaysHalted, IsStarted}
+use Rattle.orient_run.specs.Database.{KeptData, kept_of, Keeps, IsShort, IsStepped}
+use Rattle.orient_run.specs.Script.{Ends, RunsTo, RanTo, IsRun, GoesOn}
 use Rattle.orient_run.specs.Turns.{IsAnswered, IsTurned, fault_status}
 use Rattle.ori_text.proofs.Splitting.{joined-append, AreWhole-append, parts_of}
 use Rattle.ori_text.proofs.Reading.{no_long}
@@ -122,13 +131,20 @@ whole_given l0 l2 reading said m part goes_on =
 -- ---- ends
 
 -- the run so far over lines that say nothing more
-run_on : (old new : RunData) (said : List LineData) (answers : List AnswerData) → Run old said answers new → Run old (said ++ []) answers new
-run_on old new said answers p = subst (λ (s : List LineData). Run old s answers new) (sym (append-nil said)) p
+ran_on : (base : BaseData) (room : ℕ) (said : List LineData) (answers : List AnswerData) (kept : KeptData) → RunsTo base room said answers kept
+    → RanTo base room (said ++ []) answers kept.history kept.doubt kept.halted
+ran_on base room said answers kept r = record {
+  final = r.now;
+  run = subst (λ (s : List LineData). Run (run_start base room) s answers r.now) (sym (append-nil said)) r.run;
+  history_is = r.keeps.history;
+  doubtful_is = r.keeps.doubtful;
+  halted_is = r.keeps.halted;
+}
 
-pub input_ended : (l0 l1 l2 t0 t1 : Option (List ℕ)) (old new : Reading) (pages : List (List ℕ)) (history : List EntryData)
-    → GoesOn l0 l1 t0 t1 old pages history → IsEndOfInput l1 l2 old new → IsRun l0 l2 t0 t1 0 history
-input_ended l0 l1 l2 t0 t1 old new pages history g e =
-    let m = moved l0 l1 l2 t0 t1 old new pages history [] at_end g e.moves in
+pub input_ended : (files : Option Files) (l0 l1 l2 t0 t1 : Option (List ℕ)) (old new : Reading) (kept : KeptData)
+    → GoesOn files l0 l1 t0 t1 old kept → IsEndOfInput l1 l2 old new → IsRun files l0 l2 t0 t1 0 kept.history kept.doubt kept.halted
+input_ended files l0 l1 l2 t0 t1 old new kept g e =
+    let m = moved files l0 l1 l2 t0 t1 old new kept [] at_end g e.moves in
     record {
       input = m.input;
       took = m.took;
@@ -141,9 +157,8 @@ input_ended l0 l1 l2 t0 t1 old new pages history g e =
       stop = at_end;
       reads = m.reads;
       answers = g.answers;
-      final = g.now;
-      run = run_on (run_start initial_base) g.now g.said g.answers g.run;
-      history_is = g.keeps.history;
+      run = λ base room finds. ran_on base room g.said g.answers kept (g.run base room finds);
+      fault_told = g.fault_told;
       output = answers_text g.answers;
       unprinted = [];
       gave = g.gave;
@@ -151,10 +166,10 @@ input_ended l0 l1 l2 t0 t1 old new pages history g e =
       ends = inl (refl, refl, refl, refl, refl);
     }
 
-source_failed : (l0 l1 l2 t0 t1 : Option (List ℕ)) (f g1 : ℕ) (old new : Reading) (pages : List (List ℕ)) (history : List EntryData)
-    → GoesOn l0 l1 t0 t1 old pages history → IsSourceFault l1 l2 f g1 old new → IsRun l0 l2 t0 t1 3 history
-source_failed l0 l1 l2 t0 t1 f g1 old new pages history g e =
-    let m = moved l0 l1 l2 t0 t1 old new pages history [] at_end g e.moves in
+source_failed : (files : Option Files) (l0 l1 l2 t0 t1 : Option (List ℕ)) (f g1 : ℕ) (old new : Reading) (kept : KeptData)
+    → GoesOn files l0 l1 t0 t1 old kept → IsSourceFault l1 l2 f g1 old new → IsRun files l0 l2 t0 t1 3 kept.history kept.doubt kept.halted
+source_failed files l0 l1 l2 t0 t1 f g1 old new kept g e =
+    let m = moved files l0 l1 l2 t0 t1 old new kept [] at_end g e.moves in
     record {
       input = m.input;
       took = m.took;
@@ -167,9 +182,8 @@ source_failed l0 l1 l2 t0 t1 f g1 old new pages history g e =
       stop = at_end;
       reads = m.reads;
       answers = g.answers;
-      final = g.now;
-      run = run_on (run_start initial_base) g.now g.said g.answers g.run;
-      history_is = g.keeps.history;
+      run = λ base room finds. ran_on base room g.said g.answers kept (g.run base room finds);
+      fault_told = g.fault_told;
       output = answers_text g.answers;
       unprinted = [];
       gave = g.gave;
@@ -178,11 +192,11 @@ source_failed l0 l1 l2 t0 t1 f g1 old new pages history g e =
     }
 
 -- reading stopped, and all answers so far are printed
-stopped : (l0 l1 l2 t0 t1 : Option (List ℕ)) (old new : Reading) (pages : List (List ℕ)) (history : List EntryData) (stop : StopData) (status : ℕ)
-    → GoesOn l0 l1 t0 t1 old pages history → Moves l1 l2 old new [] stop
-    → ((ended : Bool) (unread : List (List ℕ)) → Ends status ended unread stop []) → IsRun l0 l2 t0 t1 status history
-stopped l0 l1 l2 t0 t1 old new pages history stop status g e ends =
-    let m = moved l0 l1 l2 t0 t1 old new pages history [] stop g e in
+stopped : (files : Option Files) (l0 l1 l2 t0 t1 : Option (List ℕ)) (old new : Reading) (kept : KeptData) (stop : StopData) (status : ℕ)
+    → GoesOn files l0 l1 t0 t1 old kept → Moves l1 l2 old new [] stop
+    → ((ended : Bool) (unread : List (List ℕ)) → Ends status ended unread stop []) → IsRun files l0 l2 t0 t1 status kept.history kept.doubt kept.halted
+stopped files l0 l1 l2 t0 t1 old new kept stop status g e ends =
+    let m = moved files l0 l1 l2 t0 t1 old new kept [] stop g e in
     let b = given_of l0 l2 new (g.said ++ []) stop m in
     record {
       input = m.input;
@@ -196,9 +210,8 @@ stopped l0 l1 l2 t0 t1 old new pages history stop status g e ends =
       stop = stop;
       reads = m.reads;
       answers = g.answers;
-      final = g.now;
-      run = run_on (run_start initial_base) g.now g.said g.answers g.run;
-      history_is = g.keeps.history;
+      run = λ base room finds. ran_on base room g.said g.answers kept (g.run base room finds);
+      fault_told = g.fault_told;
       output = answers_text g.answers;
       unprinted = [];
       gave = g.gave;
@@ -206,14 +219,49 @@ stopped l0 l1 l2 t0 t1 old new pages history stop status g e ends =
       ends = ends b.ended b.unread;
     }
 
-pub line_failed : (l0 l1 l2 t0 t1 : Option (List ℕ)) (f g1 : ℕ) (old new : Reading) (pages : List (List ℕ)) (history : List EntryData) (fault : LineFault)
-    → GoesOn l0 l1 t0 t1 old pages history → IsFault l1 l2 f g1 old new fault → IsRun l0 l2 t0 t1 (fault_status fault) history
-line_failed l0 l1 l2 t0 t1 f g1 old new pages history faults.Source g e = source_failed l0 l1 l2 t0 t1 f g1 old new pages history g e
-line_failed l0 l1 l2 t0 t1 f g1 old new pages history faults.Bad g e = stopped l0 l1 l2 t0 t1 old new pages history at_bad_line 8 g e (λ _ _. inr (inr (inr (inr (inl (refl, refl, refl))))))
-line_failed l0 l1 l2 t0 t1 f g1 old new pages history faults.TooLarge g e = stopped l0 l1 l2 t0 t1 old new pages history at_limit 9 g e (λ _ _. inr (inr (inr (inr (inr (refl, refl, refl))))))
-line_failed l0 l1 l2 t0 t1 f g1 old new pages history faults.NoMemory g e = stopped l0 l1 l2 t0 t1 old new pages history at_end 2 g e (λ _ _. inr (inl (refl, refl)))
+pub line_failed : (files : Option Files) (l0 l1 l2 t0 t1 : Option (List ℕ)) (f g1 : ℕ) (old new : Reading) (kept : KeptData) (fault : LineFault)
+    → GoesOn files l0 l1 t0 t1 old kept → IsFault l1 l2 f g1 old new fault → IsRun files l0 l2 t0 t1 (fault_status fault) kept.history kept.doubt kept.halted
+line_failed files l0 l1 l2 t0 t1 f g1 old new kept faults.Source g e = source_failed files l0 l1 l2 t0 t1 f g1 old new kept g e
+line_failed files l0 l1 l2 t0 t1 f g1 old new kept faults.Bad g e = stopped files l0 l1 l2 t0 t1 old new kept at_bad_line 8 g e (λ _ _. inr (inr (inr (inr (inl (refl, refl, refl))))))
+line_failed files l0 l1 l2 t0 t1 f g1 old new kept faults.TooLarge g e = stopped files l0 l1 l2 t0 t1 old new kept at_limit 9 g e (λ _ _. inr (inr (inr (inr (inr (refl, refl, refl))))))
+line_failed files l0 l1 l2 t0 t1 f g1 old new kept faults.NoMemory g e = stopped files l0 l1 l2 t0 t1 old new kept at_end 2 g e (λ _ _. inr (inl (refl, refl)))
 
 -- ---- after a line
+
+-- the run with one line more
+runs_on : (base : BaseData) (room : ℕ) (said : List LineData) (answers : List AnswerData) (kept : KeptData) (line : LineData) (answer : AnswerData) (kept2 : KeptData)
+    → RunsTo base room said answers kept → ((run : RunData) → Keeps kept run → IsStepped run line answer kept2) → RunsTo base room (said ++ line ∷ []) (answers ++ answer ∷ []) kept2
+runs_on base room said answers kept line answer kept2 r stepped =
+    let s = stepped r.now r.keeps in
+    record { now = s.next; run = Run-then (run_start base room) r.now s.next said line answers answer r.run s.stepped; keeps = s.keeps }
+
+-- a run ends there
+ran_to : (base : BaseData) (room : ℕ) (said : List LineData) (answers : List AnswerData) (kept : KeptData) → RunsTo base room said answers kept
+    → RanTo base room said answers kept.history kept.doubt kept.halted
+ran_to base room said answers kept r = record { final = r.now; run = r.run; history_is = r.keeps.history; doubtful_is = r.keeps.doubtful; halted_is = r.keeps.halted }
+
+-- the one element of a list
+one_is : {X : Type 0} (k : ℕ) (x y : X) → k < 1 → y ≡ get_or (y ∷ []) k x
+one_is zero x y within = refl
+one_is (suc k) x y within = absurd (omega arith)
+
+some_push : {X : Type 0} (P : X → Type 0) (xs : List X) (y : X) → Any P (xs ++ y ∷ []) → Any P xs ⊎ P y
+some_push P [] y (k, x, within, is, has) = inr (subst P (sym is ∙ sym (one_is k x y within)) has)
+some_push P (z ∷ xs) y (zero, x, within, is, has) = inl (zero, x, omega arith, is, has)
+some_push P (z ∷ xs) y (suc k, x, within, is, has) =
+    elim (some_push P xs y (k, x, omega arith, is, has)) [
+      | inl found ↦ inl (suc found.0, found.1, omega (arith, found.2), found.3, found.4)
+      | inr last ↦ inr last
+    ]
+
+-- an answer tells of a fault only where the log is halted
+told_on : (answers : List AnswerData) (answer : AnswerData) (halted halted2 : Option ℕ) → StaysHalted halted halted2 → (Any (λ a. IsTrue (tells_fault a)) answers → IsSome halted)
+    → (IsTrue (tells_fault answer) → IsSome halted2) → Any (λ a. IsTrue (tells_fault a)) (answers ++ answer ∷ []) → IsSome halted2
+told_on answers answer halted halted2 stays before last found =
+    elim (some_push (λ a. IsTrue (tells_fault a)) answers answer found) [
+      | inl earlier ↦ let some = before earlier in subst (λ (h : Option ℕ). IsSome h) (sym (stays some)) some
+      | inr here ↦ last here
+    ]
 
 printed_text : (answers : List AnswerData) (answer : AnswerData) (output unprinted : List ℕ) → answer_text answer ≡ output ++ unprinted
     → answers_text (answers ++ answer ∷ []) ≡ (answers_text answers ++ output) ++ unprinted
@@ -221,10 +269,10 @@ printed_text answers answer output unprinted text =
     answers_text-append answers (answer ∷ []) ∙ ap (λ (t : List ℕ). answers_text answers ++ t) (append-nil (answer_text answer) ∙ text)
     ∙ sym (append_assoc (answers_text answers) output unprinted)
 
-went_on : (l0 l1 l2 t0 t1 t2 : Option (List ℕ)) (old new : Reading) (pages : List (List ℕ)) (history : List EntryData) (line : Line) (pages2 : List (List ℕ)) (history2 : List EntryData)
-    (g : GoesOn l0 l1 t0 t1 old pages history) → IsLine l1 l2 old new line → IsAnswered g.now (line_of line) t1 t2 Answered pages2 history2 → GoesOn l0 l2 t0 t2 new pages2 history2
-went_on l0 l1 l2 t0 t1 t2 old new pages history line pages2 history2 g e a =
-    let m = moved l0 l1 l2 t0 t1 old new pages history (line_of line ∷ []) at_end g e.moves in
+went_on : (files : Option Files) (l0 l1 l2 t0 t1 t2 : Option (List ℕ)) (old new : Reading) (kept : KeptData) (line : Line) (kept2 : KeptData)
+    (g : GoesOn files l0 l1 t0 t1 old kept) → IsLine l1 l2 old new line → IsAnswered kept (line_of line) t1 t2 Answered kept2 → GoesOn files l0 l2 t0 t2 new kept2
+went_on files l0 l1 l2 t0 t1 t2 old new kept line kept2 g e a =
+    let m = moved files l0 l1 l2 t0 t1 old new kept (line_of line ∷ []) at_end g e.moves in
     let text : answers_text (g.answers ++ a.answer ∷ []) ≡ answers_text g.answers ++ a.output =
     printed_text g.answers a.answer a.output a.unprinted a.text ∙ ap (λ (t : List ℕ). (answers_text g.answers ++ a.output) ++ t) a.printed ∙ append-nil (answers_text g.answers ++ a.output) in
     record {
@@ -238,16 +286,15 @@ went_on l0 l1 l2 t0 t1 t2 old new pages history line pages2 history2 g e a =
       said = g.said ++ line_of line ∷ [];
       reads = m.reads;
       answers = g.answers ++ a.answer ∷ [];
-      now = a.next;
-      run = Run-then (run_start initial_base) g.now a.next g.said (line_of line) g.answers a.answer g.run a.stepped;
-      keeps = a.keeps;
+      run = λ base room finds. runs_on base room g.said g.answers kept (line_of line) a.answer kept2 (g.run base room finds) a.stepped;
+      fault_told = told_on g.answers a.answer kept.halted kept2.halted a.halted_stays g.fault_told a.fault_told;
       gave = subst (λ (t : List ℕ). Gave t0 t2 t) (sym text) (gave_more t0 t1 t2 (answers_text g.answers) a.output g.gave a.gave);
     }
 
-printing_ended : (l0 l1 l2 t0 t1 t2 : Option (List ℕ)) (old new : Reading) (pages : List (List ℕ)) (history : List EntryData) (line : Line) (pages2 : List (List ℕ)) (history2 : List EntryData) (status : ℕ)
-    (g : GoesOn l0 l1 t0 t1 old pages history) → IsLine l1 l2 old new line → IsAnswered g.now (line_of line) t1 t2 (Ended status) pages2 history2 → IsRun l0 l2 t0 t2 status history2
-printing_ended l0 l1 l2 t0 t1 t2 old new pages history line pages2 history2 status g e a =
-    let m = moved l0 l1 l2 t0 t1 old new pages history (line_of line ∷ []) at_end g e.moves in
+printing_ended : (files : Option Files) (l0 l1 l2 t0 t1 t2 : Option (List ℕ)) (old new : Reading) (kept : KeptData) (line : Line) (kept2 : KeptData) (status : ℕ)
+    (g : GoesOn files l0 l1 t0 t1 old kept) → IsLine l1 l2 old new line → IsAnswered kept (line_of line) t1 t2 (Ended status) kept2 → IsRun files l0 l2 t0 t2 status kept2.history kept2.doubt kept2.halted
+printing_ended files l0 l1 l2 t0 t1 t2 old new kept line kept2 status g e a =
+    let m = moved files l0 l1 l2 t0 t1 old new kept (line_of line ∷ []) at_end g e.moves in
     let b = given_of l0 l2 new (g.said ++ line_of line ∷ []) at_end m in
     record {
       input = m.input;
@@ -261,9 +308,8 @@ printing_ended l0 l1 l2 t0 t1 t2 old new pages history line pages2 history2 stat
       stop = at_end;
       reads = m.reads;
       answers = g.answers ++ a.answer ∷ [];
-      final = a.next;
-      run = Run-then (run_start initial_base) g.now a.next g.said (line_of line) g.answers a.answer g.run a.stepped;
-      history_is = a.keeps.history;
+      run = λ base room finds. ran_to base room _ _ kept2 (runs_on base room g.said g.answers kept (line_of line) a.answer kept2 (g.run base room finds) a.stepped);
+      fault_told = told_on g.answers a.answer kept.halted kept2.halted a.halted_stays g.fault_told a.fault_told;
       output = answers_text g.answers ++ a.output;
       unprinted = a.unprinted;
       gave = gave_more t0 t1 t2 (answers_text g.answers) a.output g.gave a.gave;
@@ -274,17 +320,46 @@ printing_ended l0 l1 l2 t0 t1 t2 old new pages history line pages2 history2 stat
       ];
     }
 
-pub after_line : (l0 l1 l2 t0 t1 t2 : Option (List ℕ)) (old new : Reading) (pages : List (List ℕ)) (history : List EntryData) (line : Line) (pages2 : List (List ℕ)) (history2 : List EntryData) (turn : Turn)
-    (g : GoesOn l0 l1 t0 t1 old pages history) → IsLine l1 l2 old new line → IsAnswered g.now (line_of line) t1 t2 turn pages2 history2 → IsTurned l0 l2 t0 t2 new pages2 history2 turn
-after_line l0 l1 l2 t0 t1 t2 old new pages history line pages2 history2 Answered g e a = went_on l0 l1 l2 t0 t1 t2 old new pages history line pages2 history2 g e a
-after_line l0 l1 l2 t0 t1 t2 old new pages history line pages2 history2 (Ended status) g e a = printing_ended l0 l1 l2 t0 t1 t2 old new pages history line pages2 history2 status g e a
+pub after_line : (files : Option Files) (l0 l1 l2 t0 t1 t2 : Option (List ℕ)) (old new : Reading) (kept : KeptData) (line : Line) (kept2 : KeptData) (turn : Turn)
+    (g : GoesOn files l0 l1 t0 t1 old kept) → IsLine l1 l2 old new line → IsAnswered kept (line_of line) t1 t2 turn kept2 → IsTurned files l0 l2 t0 t2 new kept2 turn
+after_line files l0 l1 l2 t0 t1 t2 old new kept line kept2 Answered g e a = went_on files l0 l1 l2 t0 t1 t2 old new kept line kept2 g e a
+after_line files l0 l1 l2 t0 t1 t2 old new kept line kept2 (Ended status) g e a = printing_ended files l0 l1 l2 t0 t1 t2 old new kept line kept2 status g e a
 
 -- ---- the start
 
-pub started : (left taken : Option (List ℕ)) (reading : Reading) (pages : List (List ℕ)) (history : List EntryData) → reading ≡ record { given = 0; held = []; ended = false }
-    → Keeps pages history (run_start initial_base) → GoesOn left left taken taken reading pages history
-started left taken reading pages history fresh keeps =
-    subst (λ (r : Reading). GoesOn left left taken taken r pages history) (sym fresh) (record {
+-- what is kept of a database whose engine was started, and which has done nothing yet
+pub record IsFresh (base : BaseData) (room : ℕ) (kept : KeptData) : Type 0 where
+  pub sound : IsSound base
+  pub stands : StandFor kept.pages base
+  pub room_is : kept.room ≡ room
+  pub history : kept.history ≡ []
+  pub doubt : kept.doubt ≡ None
+  pub going : kept.halted ≡ None
+
+pub fresh_of : (d : Database) (base : BaseData) (room : ℕ) → d.history ≡ [] → d.doubt ≡ None → d.engine.halted ≡ None → IsStarted d.engine base room → IsFresh base room (kept_of d)
+fresh_of d base room history doubt going is_started = record {
+  sound = is_started.sound;
+  stands = is_started.stands;
+  room_is = is_started.room_is;
+  history = ap entries_of history;
+  doubt = ap (λ (o : Option Entry). option_map entry_of o) doubt;
+  going = going;
+}
+
+fresh_keeps : (base : BaseData) (room : ℕ) (kept : KeptData) → IsFresh base room kept → Keeps kept (run_start base room)
+fresh_keeps base room kept fresh = record {
+  sound = fresh.sound;
+  stands = fresh.stands;
+  history = fresh.history;
+  halted = fresh.going;
+  doubtful = ap (λ (d : Option EntryData). doubts kept.history d) fresh.doubt;
+  room = λ _. (fresh.room_is, fresh.doubt);
+}
+
+pub started : (files : Option Files) (left taken : Option (List ℕ)) (reading : Reading) (kept : KeptData) → reading ≡ record { given = 0; held = []; ended = false }
+    → ((base : BaseData) (room : ℕ) → Finds files base room → IsFresh base room kept) → GoesOn files left left taken taken reading kept
+started files left taken reading kept fresh keeps =
+    subst (λ (r : Reading). GoesOn files left left taken taken r kept) (sym fresh) (record {
       input = [];
       took = took_nothing left;
       source_end = λ e. absurd (cc (e));
@@ -295,15 +370,15 @@ started left taken reading pages history fresh keeps =
       said = [];
       reads = (refl, refl);
       answers = [];
-      now = run_start initial_base;
-      run = refl;
-      keeps = keeps;
+      run = λ base room finds. record { now = run_start base room; run = refl; keeps = fresh_keeps base room kept (keeps base room finds) };
+      fault_told = λ found. absurd (omega (arith, found.2));
       gave = gave_nothing taken;
     })
 
 -- before anything is read memory may be wanting
-pub not_begun : (left taken : Option (List ℕ)) (pages : List (List ℕ)) (history : List EntryData) → Keeps pages history (run_start initial_base) → IsRun left left taken taken 2 history
-not_begun left taken pages history keeps = record {
+pub not_begun : (files : Option Files) (left taken : Option (List ℕ)) (kept : KeptData) → ((base : BaseData) (room : ℕ) → Finds files base room → IsFresh base room kept)
+    → IsRun files left left taken taken 2 kept.history kept.doubt kept.halted
+not_begun files left taken kept keeps = record {
   input = [];
   took = took_nothing left;
   ended = false;
@@ -315,9 +390,8 @@ not_begun left taken pages history keeps = record {
   stop = at_end;
   reads = (refl, refl);
   answers = [];
-  final = run_start initial_base;
-  run = refl;
-  history_is = keeps.history;
+  run = λ base room finds. ran_to base room [] [] kept (record { now = run_start base room; run = refl; keeps = fresh_keeps base room kept (keeps base room finds) });
+  fault_told = λ found. absurd (omega (arith, found.2));
   output = [];
   unprinted = [];
   gave = gave_nothing taken;

@@ -6,7 +6,7 @@ use Rattle.ori_spec.specs.Apply.{rid_at}
 use Rattle.ori_spec.specs.Statement.{record_at}
 use Rattle.ori_spec.specs.Spelling.{Spells}
 use Rattle.ori_spec.specs.Stage.{record_page, IsPageOf, StandFor, IsSound}
-use Rattle.orient_run.specs.Pages.{AreCounted}
+use Rattle.orient_run.specs.Counting.{AreCounted}
 use Rattle.orient_run.proofs.Bases.{found_at}
 use Rattle.orient_run.proofs.Growth.{pages_are}
 use Rattle.orient_run.proofs.Spellings.{one_spelled}

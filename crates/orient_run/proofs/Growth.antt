@@ -12,7 +12,8 @@ use Rattle.ori_spec.specs.Apply.{rid_at, apply_tx, cluster_without_room, fresh}
 use Rattle.ori_spec.specs.Statement.{insert_tx, record_at}
 use Rattle.ori_spec.specs.Spelling.{Spells}
 use Rattle.ori_spec.specs.Stage.{head_page, record_page, IsPageOf, StandFor, IsSound, IsSoundRecord}
-use Rattle.orient_run.specs.Pages.{AreCounted, text_record}
+use Rattle.orient_run.specs.Counting.{AreCounted}
+use Rattle.orient_run.specs.Pages.{text_record}
 use Rattle.orient_run.proofs.Bases.{plain, is_plain, after_insert, sound_more, rising_more, new_at, others_at, rid_at-position}
 use Rattle.orient_run.proofs.RecordForms.{pages_counted}
 

@@ -1,14 +1,15 @@
 -- A run goes on with a line, and ends.
 use Rattle.std.proofs.Common.{◌≡◌, ◌⊎◌, ℕ, ◌+◌, ◌<◌, Bool, List, [], ◌∷◌, ◌++◌, length, Option, refl, sym, ap, ◌∙◌, append_assoc, inl, inr, arith, subst, IsTrue}
 use Rattle.std.proofs.lemmas.List.{append-nil, length-append, nil_from_length}
+use Rattle.ori_volume.specs.Disk.{Files}
 use Rattle.ori_volume.specs.Streams.{Took}
 use Rattle.ori_volume.proofs.Pieces.{took_more}
-use Rattle.ori_spec.specs.Base.{EntryData}
 use Rattle.ori_spec.specs.Line.{LineData, StopData, at_end, Reads}
 use Rattle.ori_spec.specs.Reply.{AnswerData, answer_text, answers_text}
 use Rattle.ori_spec.specs.Run.{RunData, Step, Run}
 use Rattle.ori_text.specs.Lines.{Reading, joined, AreWhole, HasLast}
 use Rattle.ori_text.specs.LineReading.{IsAtEnd, Moves}
+use Rattle.orient_run.specs.Database.{KeptData}
 use Rattle.orient_run.specs.Script.{GoesOn}
 use Rattle.ori_text.proofs.Splitting.{joined-append, AreWhole-append}
 use Rattle.ori_text.proofs.Reading.{Reads-then, no_long}
@@ -60,9 +61,9 @@ last_after lines ended more held w h = record {
 }
 
 -- further lines behind whole ones
-moved_behind : (l0 l1 l2 t0 t1 : Option (List ℕ)) (old new : Reading) (pages : List (List ℕ)) (history : List EntryData) (said : List LineData) (stop : StopData)
-    (g : GoesOn l0 l1 t0 t1 old pages history) → AreWhole g.lines → (m : Moves l1 l2 old new said stop) → (IsTrue new.ended → IsAtEnd l2) → Moved l0 l2 new (g.said ++ said) stop
-moved_behind l0 l1 l2 t0 t1 old new pages history said stop g w m over =
+moved_behind : (files : Option Files) (l0 l1 l2 t0 t1 : Option (List ℕ)) (old new : Reading) (kept : KeptData) (said : List LineData) (stop : StopData)
+    (g : GoesOn files l0 l1 t0 t1 old kept) → AreWhole g.lines → (m : Moves l1 l2 old new said stop) → (IsTrue new.ended → IsAtEnd l2) → Moved l0 l2 new (g.said ++ said) stop
+moved_behind files l0 l1 l2 t0 t1 old new kept said stop g w m over =
     let a = m.advances in
     let all : joined (g.lines ++ m.lines) ≡ joined g.lines ++ joined m.lines = joined-append g.lines m.lines in
     record {
@@ -80,19 +81,19 @@ moved_behind l0 l1 l2 t0 t1 old new pages history said stop g w m over =
       reads = Reads-then 0 g.lines m.lines g.said said stop g.reads (subst (λ (n : ℕ). Reads n m.lines said stop) (omega (arith, g.given)) a.reads);
     }
 
-ended_before : (l0 l1 t0 t1 : Option (List ℕ)) (old : Reading) (pages : List (List ℕ)) (history : List EntryData) (g : GoesOn l0 l1 t0 t1 old pages history) → HasLast old.ended g.lines old.held → IsTrue old.ended
-ended_before l0 l1 t0 t1 old pages history g h =
+ended_before : (files : Option Files) (l0 l1 t0 t1 : Option (List ℕ)) (old : Reading) (kept : KeptData) (g : GoesOn files l0 l1 t0 t1 old kept) → HasLast old.ended g.lines old.held → IsTrue old.ended
+ended_before files l0 l1 t0 t1 old kept g h =
     elim h.why [
       | inl ended ↦ ended
       | inr long ↦ absurd (no_long 0 h.front h.last g.said (subst (λ (ls : List (List ℕ)). Reads 0 ls g.said at_end) h.parts g.reads) long)
     ]
 
 -- behind a last line without an end nothing comes
-moved_over : (l0 l1 l2 t0 t1 : Option (List ℕ)) (old new : Reading) (pages : List (List ℕ)) (history : List EntryData) (said : List LineData) (stop : StopData)
-    (g : GoesOn l0 l1 t0 t1 old pages history) → HasLast old.ended g.lines old.held → (m : Moves l1 l2 old new said stop) → (IsTrue new.ended → IsAtEnd l2) → Moved l0 l2 new (g.said ++ said) stop
-moved_over l0 l1 l2 t0 t1 old new pages history said stop g h m over =
+moved_over : (files : Option Files) (l0 l1 l2 t0 t1 : Option (List ℕ)) (old new : Reading) (kept : KeptData) (said : List LineData) (stop : StopData)
+    (g : GoesOn files l0 l1 t0 t1 old kept) → HasLast old.ended g.lines old.held → (m : Moves l1 l2 old new said stop) → (IsTrue new.ended → IsAtEnd l2) → Moved l0 l2 new (g.said ++ said) stop
+moved_over files l0 l1 l2 t0 t1 old new kept said stop g h m over =
     let a = m.advances in
-    let past = a.over (ended_before l0 l1 t0 t1 old pages history g h) in
+    let past = a.over (ended_before files l0 l1 t0 t1 old kept g h) in
     let none : [] ≡ joined m.lines ++ new.held = sym (ap (λ (t : List ℕ). t ++ m.more) h.nothing_held ∙ past.0) ∙ a.parts in
     let sum : 0 ≡ length (joined m.lines) + length new.held = ap length none ∙ length-append (joined m.lines) new.held in
     let no_more : m.lines ≡ [] = no_lines m.lines new.ended new.held a.whole (omega (arith, sum)) in
@@ -111,11 +112,11 @@ moved_over l0 l1 l2 t0 t1 old new pages history said stop g h m over =
           (subst (λ (st : StopData). Reads 0 g.lines g.said st) (sym ends.1) g.reads);
     }
 
-pub moved : (l0 l1 l2 t0 t1 : Option (List ℕ)) (old new : Reading) (pages : List (List ℕ)) (history : List EntryData) (said : List LineData) (stop : StopData)
-    (g : GoesOn l0 l1 t0 t1 old pages history) (m : Moves l1 l2 old new said stop) → Moved l0 l2 new (g.said ++ said) stop
-moved l0 l1 l2 t0 t1 old new pages history said stop g m =
+pub moved : (files : Option Files) (l0 l1 l2 t0 t1 : Option (List ℕ)) (old new : Reading) (kept : KeptData) (said : List LineData) (stop : StopData)
+    (g : GoesOn files l0 l1 t0 t1 old kept) (m : Moves l1 l2 old new said stop) → Moved l0 l2 new (g.said ++ said) stop
+moved files l0 l1 l2 t0 t1 old new kept said stop g m =
     let over : IsTrue new.ended → IsAtEnd l2 = m.source_end g.source_end in
     elim g.whole [
-      | inl w ↦ moved_behind l0 l1 l2 t0 t1 old new pages history said stop g w m over
-      | inr h ↦ moved_over l0 l1 l2 t0 t1 old new pages history said stop g h m over
+      | inl w ↦ moved_behind files l0 l1 l2 t0 t1 old new kept said stop g w m over
+      | inr h ↦ moved_over files l0 l1 l2 t0 t1 old new kept said stop g h m over
     ]

@@ -1,9 +1,11 @@
 -- What the code's replies stand for.
-use Rattle.std.specs.Prelude.{ℕ, [], map, Result, Ok, Err}
+use Rattle.std.specs.Prelude.{ℕ, pos, [], map, Result, Ok, Err}
 use Rattle.ori_spec.specs.Value.{Fields}
-use Rattle.ori_spec.specs.Reply.{RefusalData, unbuilt, cluster_full, no_memory, ReplyData, AnswerData, to_session, to_step}
+use Rattle.ori_spec.specs.Reply.{RefusalData, unbuilt, cluster_full, log_full, halted, fault, no_memory, ReplyData, AnswerData, to_session, to_step}
 use Rattle.orient_run.specs.declared.reply.Refusal.{Refusal}
 use Rattle.orient_run.specs.declared.reply.Refusal.TheVariants as refusals
+use Rattle.orient_run.specs.declared.engine.InsertFault.{InsertFault}
+use Rattle.orient_run.specs.declared.engine.InsertFault.TheVariants as inserts
 use Rattle.orient_run.specs.declared.reply.Row.{Row}
 use Rattle.orient_run.specs.declared.reply.Reply.{Reply}
 use Rattle.orient_run.specs.declared.reply.Answer.{Answer}
@@ -13,7 +15,18 @@ use Rattle.orient_run.specs.Records.{fields_of}
 abbrev pub refusal_of : Refusal → RefusalData
 refusal_of refusals.Unbuilt = unbuilt
 refusal_of (refusals.ClusterFull cluster) = cluster_full cluster
+refusal_of (refusals.LogFull need room) = log_full need room
+refusal_of (refusals.Halted faults) = halted faults
+refusal_of refusals.Fault = fault
 refusal_of refusals.NoMemory = no_memory
+
+-- how an insert that wasn't made is answered
+abbrev pub insert_refusal : InsertFault → RefusalData
+insert_refusal (inserts.Halted faults) = halted faults
+insert_refusal inserts.ClusterFull = cluster_full (pos 1)
+insert_refusal (inserts.LogFull need room) = log_full need room
+insert_refusal inserts.Fault = fault
+insert_refusal inserts.NoMemory = no_memory
 
 abbrev pub row_of : Row → Fields
 row_of r = fields_of r.columns

@@ -1,13 +1,16 @@
 -- What a script's run has to do with what was read and what was printed, and where it ends.
-use Rattle.std.specs.Prelude.{◌≡◌, ◌⊎◌, ℕ, Bool, false, List, [], ◌++◌, length, IsTrue, Option}
+use Rattle.std.specs.Prelude.{◌≡◌, ◌⊎◌, ℕ, Bool, false, List, [], ◌++◌, length, IsTrue, Any, Option, Some, None, IsSome}
+use Rattle.ori_volume.specs.Disk.{Files}
 use Rattle.ori_volume.specs.Streams.{Took, Gave}
-use Rattle.ori_spec.specs.Base.{initial_base, EntryData}
+use Rattle.ori_spec.specs.Base.{BaseData, EntryData}
 use Rattle.ori_spec.specs.Line.{LineData, StopData, at_end, at_bad_line, at_limit, Gives, Reads}
-use Rattle.ori_spec.specs.Reply.{AnswerData, answers_text}
+use Rattle.ori_spec.specs.Reply.{AnswerData, answers_text, tells_fault}
 use Rattle.ori_spec.specs.Run.{RunData, run_start, Run}
 use Rattle.ori_text.specs.Lines.{Reading, joined, AreWhole, HasLast}
 use Rattle.ori_text.specs.LineReading.{IsAtEnd}
-use Rattle.orient_run.specs.Database.{Keeps}
+use Rattle.orient_run.specs.Opening.{Finds}
+use Rattle.orient_run.specs.Crash.{doubts}
+use Rattle.orient_run.specs.Database.{KeptData, Keeps}
 
 -- Why a run ends with a status, where `unread` are the lines of the input behind those that were read.
 -- 0: the source gave its end, and each line of the input has its answer, all of them printed.
@@ -24,9 +27,24 @@ Ends status ended unread stop unprinted =
     ⊎ ((status ≡ 8) × (stop ≡ at_bad_line) × (unprinted ≡ []))
     ⊎ ((status ≡ 9) × (stop ≡ at_limit) × (unprinted ≡ []))
 
--- A run over the initial base, between a source and a sink as they were and as they are: the input that it took gives lines; the
--- first of them were read and say what was run, with these answers; and of the answers' text this output was given.
-pub record IsRun (left_old left_new taken_old taken_new : Option (List ℕ)) (status : ℕ) (history : List EntryData) : Type 0 where
+-- the lines have these answers over the base that the volume was found with, and the run has come to what is kept
+pub record RunsTo (base : BaseData) (room : ℕ) (said : List LineData) (answers : List AnswerData) (kept : KeptData) : Type 0 where
+  pub now : RunData
+  pub run : Run (run_start base room) said answers now
+  pub keeps : Keeps kept now
+
+-- a run from this base on, with this history, this doubtful entry, and the log halted or not
+pub record RanTo (base : BaseData) (room : ℕ) (said : List LineData) (answers : List AnswerData) (history : List EntryData) (doubt : Option EntryData) (halted : Option ℕ) : Type 0 where
+  pub final : RunData
+  pub run : Run (run_start base room) said answers final
+  pub history_is : history ≡ final.history
+  pub doubtful_is : doubts history doubt ≡ final.doubtful
+  pub halted_is : halted ≡ final.halted
+
+-- A run over a volume that told these files, between a source and a sink as they were and as they are: the input that it took
+-- gives lines; the first of them were read and say what was run, with these answers; and of the answers' text this output was
+-- given. An answer tells of a fault only where the log is halted.
+pub record IsRun (files : Option Files) (left_old left_new taken_old taken_new : Option (List ℕ)) (status : ℕ) (history : List EntryData) (doubt : Option EntryData) (halted : Option ℕ) : Type 0 where
   pub input : List ℕ
   pub took : Took left_old left_new input
   pub ended : Bool
@@ -38,9 +56,8 @@ pub record IsRun (left_old left_new taken_old taken_new : Option (List ℕ)) (st
   pub stop : StopData
   pub reads : Reads 0 lines said stop
   pub answers : List AnswerData
-  pub final : RunData
-  pub run : Run (run_start initial_base) said answers final
-  pub history_is : history ≡ final.history
+  pub run : (base : BaseData) (room : ℕ) → Finds files base room → RanTo base room said answers history doubt halted
+  pub fault_told : Any (λ a. IsTrue (tells_fault a)) answers → IsSome halted
   pub output : List ℕ
   pub unprinted : List ℕ
   pub gave : Gave taken_old taken_new output
@@ -48,7 +65,7 @@ pub record IsRun (left_old left_new taken_old taken_new : Option (List ℕ)) (st
   pub ends : Ends status ended unread stop unprinted
 
 -- A run that goes on: all lines that were read so far have their answers, which were printed.
-pub record GoesOn (left_old left_new taken_old taken_new : Option (List ℕ)) (reading : Reading) (pages : List (List ℕ)) (history : List EntryData) : Type 0 where
+pub record GoesOn (files : Option Files) (left_old left_new taken_old taken_new : Option (List ℕ)) (reading : Reading) (kept : KeptData) : Type 0 where
   pub input : List ℕ
   pub took : Took left_old left_new input
   pub source_end : IsTrue reading.ended → IsAtEnd left_new
@@ -59,7 +76,6 @@ pub record GoesOn (left_old left_new taken_old taken_new : Option (List ℕ)) (r
   pub said : List LineData
   pub reads : Reads 0 lines said at_end
   pub answers : List AnswerData
-  pub now : RunData
-  pub run : Run (run_start initial_base) said answers now
-  pub keeps : Keeps pages history now
+  pub run : (base : BaseData) (room : ℕ) → Finds files base room → RunsTo base room said answers kept
+  pub fault_told : Any (λ a. IsTrue (tells_fault a)) answers → IsSome kept.halted
   pub gave : Gave taken_old taken_new (answers_text answers)

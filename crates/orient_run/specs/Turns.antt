@@ -1,16 +1,17 @@
 -- One line of a script: how it was answered.
-use Rattle.std.specs.Prelude.{◌≡◌, ◌⊎◌, ℕ, List, [], ◌++◌, Option}
+use Rattle.std.specs.Prelude.{◌≡◌, ◌⊎◌, ℕ, List, [], ◌++◌, IsTrue, IsSome, Option}
+use Rattle.ori_volume.specs.Disk.{Files}
 use Rattle.ori_volume.specs.Streams.{Gave}
-use Rattle.ori_spec.specs.Base.{EntryData}
 use Rattle.ori_spec.specs.Line.{LineData}
-use Rattle.ori_spec.specs.Reply.{AnswerData, answer_text}
+use Rattle.ori_spec.specs.Reply.{AnswerData, answer_text, tells_fault}
 use Rattle.ori_spec.specs.Run.{RunData, Step}
 use Rattle.ori_text.specs.declared.line.LineFault.{LineFault}
 use Rattle.ori_text.specs.declared.line.LineFault.TheVariants as faults
 use Rattle.orient_run.specs.declared.run.Turn.{Turn}
 use Rattle.orient_run.specs.declared.run.Turn.TheVariants.{Answered, Ended}
 use Rattle.ori_text.specs.Lines.{Reading}
-use Rattle.orient_run.specs.Database.{Keeps}
+use Rattle.orient_run.specs.Database.{KeptData, Keeps, IsStepped}
+use Rattle.orient_run.specs.Engine.{StaysHalted}
 use Rattle.orient_run.specs.Script.{IsRun, GoesOn}
 
 -- the status of a run that a fault of a line ends
@@ -26,11 +27,11 @@ IsPrinted Answered unprinted = unprinted ≡ []
 IsPrinted (Ended status) unprinted = (status ≡ 2) ⊎ (status ≡ 4)
 
 -- A line was run, and of its answer's text a part from the front was given.
-pub record IsAnswered (run : RunData) (line : LineData) (taken_old taken_new : Option (List ℕ)) (turn : Turn) (pages : List (List ℕ)) (history : List EntryData) : Type 0 where
-  pub next : RunData
+pub record IsAnswered (old_kept : KeptData) (line : LineData) (taken_old taken_new : Option (List ℕ)) (turn : Turn) (kept : KeptData) : Type 0 where
   pub answer : AnswerData
-  pub stepped : Step run line answer next
-  pub keeps : Keeps pages history next
+  pub stepped : (run : RunData) → Keeps old_kept run → IsStepped run line answer kept
+  pub fault_told : IsTrue (tells_fault answer) → IsSome kept.halted
+  pub halted_stays : StaysHalted old_kept.halted kept.halted
   pub output : List ℕ
   pub unprinted : List ℕ
   pub text : answer_text answer ≡ output ++ unprinted
@@ -38,6 +39,6 @@ pub record IsAnswered (run : RunData) (line : LineData) (taken_old taken_new : O
   pub printed : IsPrinted turn unprinted
 
 -- After a line the run goes on, or it has ended.
-abbrev pub IsTurned : Option (List ℕ) → Option (List ℕ) → Option (List ℕ) → Option (List ℕ) → Reading → List (List ℕ) → List EntryData → Turn → Type 0
-IsTurned left_old left_new taken_old taken_new reading pages history Answered = GoesOn left_old left_new taken_old taken_new reading pages history
-IsTurned left_old left_new taken_old taken_new reading pages history (Ended status) = IsRun left_old left_new taken_old taken_new status history
+abbrev pub IsTurned : Option Files → Option (List ℕ) → Option (List ℕ) → Option (List ℕ) → Option (List ℕ) → Reading → KeptData → Turn → Type 0
+IsTurned files left_old left_new taken_old taken_new reading kept Answered = GoesOn files left_old left_new taken_old taken_new reading kept
+IsTurned files left_old left_new taken_old taken_new reading kept (Ended status) = IsRun files left_old left_new taken_old taken_new status kept.history kept.doubt kept.halted

@@ -1,19 +1,19 @@
-// A database in memory with the history of its run, and what a line of input does to it.
-ghost use Rattle.std.specs.Prelude.{◌≡◌, ◌⊎◌, ◌≤◌, ◌+◌, [], ◌∷◌, ◌++◌, None, Some, length, List, ℕ, IsTrue, IfOk, OnOk, OnErr, IfSome, codes, map, option_map, negsuc};
+// A database with the history of its run, and what a line of input does to it.
+ghost use Rattle.std.specs.Prelude.{◌≡◌, ◌⊎◌, ◌≤◌, ◌<◌, ◌+◌, [], ◌∷◌, ◌++◌, false, None, length, vec_len, vec_capacity, List, ℕ, IsTrue, IfOk, OnOk, OnErr, IsSome, map};
 ghost use Rattle.ori_bytes.specs.declared.limits.TheConstants.{MAX_LINE_BYTES};
-ghost use Rattle.ori_bytes.specs.declared.rid.Rid.{Rid};
-ghost use Rattle.ori_spec.specs.Value.{Fields, str, no_pairs, pair};
-ghost use Rattle.ori_spec.specs.Base.{BaseData, initial_base, commit, RecordData};
-ghost use Rattle.ori_spec.specs.Apply.{cluster_without_room, fresh};
-ghost use Rattle.ori_spec.specs.Statement.{is_field_name, is_plain, insert_tx, rows_at, Means};
+ghost use Rattle.ori_spec.specs.Value.{str};
+ghost use Rattle.ori_spec.specs.Base.{BaseData, commit};
+ghost use Rattle.ori_spec.specs.Statement.{is_field_name, insert_tx, rows_at};
 ghost use Rattle.ori_spec.specs.Statement as spec;
+ghost use Rattle.ori_spec.specs.Stage.{StandFor, IsSound};
 ghost use Rattle.ori_spec.specs.Line.{statement};
-ghost use Rattle.ori_spec.specs.Reply.{refused, granted, no_memory, to_session};
-ghost use Rattle.ori_spec.specs.Run.{RunData, run_start, Decides, Step};
-ghost use Rattle.orient_run.specs.Records.{fields_of, tree_of, entry_of, entries_of, record_of};
-ghost use Rattle.orient_run.specs.Replies.{reply_of, row_of, answer_of, refusal_of};
+ghost use Rattle.ori_spec.specs.Reply.{refused, granted, no_memory, to_session, is_fault, tells_fault};
+ghost use Rattle.ori_spec.specs.Run.{RunData};
+ghost use Rattle.orient_run.specs.Records.{tree_of, entry_of, entries_of, record_of};
+ghost use Rattle.orient_run.specs.Replies.{reply_of, row_of, answer_of, refusal_of, told_of};
+ghost use Rattle.orient_run.specs.Replies as replies;
 ghost use Rattle.ori_text.specs.LineReading.{line_of};
-ghost use Rattle.orient_run.specs.Database.{Keeps, new_record, IsPrepared, IsOneMore, IsInserted, IsStepped, IsShort};
+ghost use Rattle.orient_run.specs.Database.{new_record};
 
 use crate::engine::{Engine, InsertFault};
 use crate::model::{Change, ChangeList, Entry, EntryList, Stored, Tx};
@@ -22,13 +22,18 @@ use crate::statement::{Statement, read_statement};
 use crate::value::{FieldList, Value};
 use ori_bytes::{NoMemory, Rid, RidList, Text};
 use ori_text::Line;
+use ori_volume::Volume;
 use std::alloc::Global;
 
-/// The pages in memory, and what was committed to them in this run.
+/// The engine, and what this run has committed to it.
 #[derive(Drop)]
 pub struct Database {
     pub engine: Engine,
     pub history: EntryList,
+    /// For each entry the volume's moment when it was acknowledged.
+    pub marks: Vec<u64>,
+    /// The entry whose write to the log failed.
+    pub doubt: Option<Entry>,
 }
 
 // The identifier of a transaction's first new record until its commit.
@@ -125,24 +130,48 @@ fn refusal(alloc: Global, refusal: Refusal) -> Reply
     }
 }
 
+// Why an insert was refused, but for a fault.
+fn insert_refusal(fault: InsertFault) -> Refusal
+    ensures { refusal_of result ≡ replies.insert_refusal fault }
+{
+    match fault {
+        InsertFault::Halted { at_fault } => Refusal::Halted { at_fault },
+        InsertFault::ClusterFull => Refusal::ClusterFull { cluster: 1 },
+        InsertFault::LogFull { need, room } => Refusal::LogFull { need, room },
+        InsertFault::Fault => Refusal::Fault,
+        InsertFault::NoMemory => Refusal::NoMemory,
+    }
+}
+
 impl Database {
-    /// The initial database, which has no record.
-    pub fn new(alloc: Global) -> Result<Self, NoMemory>
-        ensures { IfOk result (λ d. Keeps d.engine (entries_of d.history) (run_start initial_base)) }
+    ghost use Rattle.ori_volume.specs.Story.{Tells};
+    ghost use Rattle.orient_run.specs.Database.{kept_of, Keeps, IsPrepared, IsOneMore, doubt_by, IsInserted, IsMarked, IsStepped, IsShort, StaysSafe};
+    ghost use Rattle.orient_run.specs.declared.model.Entry.{Entry};
+    ghost use Rattle.orient_run.specs.Engine.{MayHalt};
+
+    /// The database of an engine that has just opened a volume.
+    pub fn new(alloc: Global, engine: Engine) -> Self
+        ensures engine { result.engine ≡ engine }
+        ensures history { result.history ≡ [] }
+        ensures marks { result.marks.items ≡ [] }
+        ensures doubt { result.doubt ≡ None }
     {
-        Ok(Database {
-            engine: Engine::new(alloc)?,
+        Database {
+            engine,
             history: EntryList::new(alloc),
-        })
+            marks: Vec::new(alloc),
+            doubt: None,
+        }
     }
 
     // The rows of the record with an identifier.
     fn rows(&self, alloc: Global, rid: Rid) -> Result<Vec<Row>, NoMemory>
-        ensures { (run : RunData) → Keeps self.now.engine (entries_of self.now.history) run
-            → IfOk result (λ rows. map row_of rows.items ≡ rows_at run.base rid) }
+        ensures { IfOk result (λ rows. (base : BaseData) → IsSound base → StandFor self.now.engine.table.pages.items base
+            → map row_of rows.items ≡ rows_at base rid) }
     {
+        let found = self.engine.fetch(alloc, rid)?;
         let mut rows = Vec::new(alloc);
-        if let Some(stored) = self.engine.fetch(alloc, rid)? {
+        if let Some(stored) = found {
             rows.push(whole_row(alloc, stored)?)?;
         }
         Ok(rows)
@@ -150,8 +179,9 @@ impl Database {
 
     // The reply to a SELECT.
     fn select(&self, alloc: Global, rid: Rid) -> Reply
-        ensures { (run : RunData) → Keeps self.now.engine (entries_of self.now.history) run
-            → (reply_of result ≡ granted (rows_at run.base rid) (length (rows_at run.base rid))) ⊎ (reply_of result ≡ refused no_memory) }
+        ensures selected { (base : BaseData) → IsSound base → StandFor self.now.engine.table.pages.items base
+            → (reply_of result ≡ granted (rows_at base rid) (length (rows_at base rid))) ⊎ (reply_of result ≡ refused no_memory) }
+        ensures no_fault { is_fault (told_of result.told) ≡ false }
     {
         match self.rows(alloc, rid) {
             Ok(rows) => {
@@ -165,7 +195,7 @@ impl Database {
         }
     }
 
-    // Takes the memory of an INSERT: its row, and its entry at the end of the history.
+    // Takes the memory of an INSERT: its row, a place for its mark, and its entry at the end of the history.
     fn prepare(
         &mut self,
         alloc: Global,
@@ -174,8 +204,11 @@ impl Database {
         value: &str,
     ) -> Result<Vec<Row>, NoMemory>
         ensures engine { self.new.engine ≡ self.old.engine }
-        ensures ok { (run : RunData) → Keeps self.old.engine (entries_of self.old.history) run
-            → IfOk result (λ rows. IsPrepared run session name.now value.now (entries_of self.new.history) (map row_of rows.items)) }
+        ensures doubt { self.new.doubt ≡ self.old.doubt }
+        ensures marks { self.new.marks.items ≡ self.old.marks.items }
+        ensures place { OnOk result (vec_len self.new.marks < vec_capacity self.new.marks) }
+        ensures ok { IfOk result (λ rows. (base : BaseData) → IsSound base → StandFor self.old.engine.table.pages.items base
+            → IsPrepared base (entries_of self.old.history) session name.now value.now (entries_of self.new.history) (map row_of rows.items)) }
         ensures history { OnOk result (IsOneMore self.old.history self.new.history) }
         ensures err { OnErr result (self.new.history ≡ self.old.history) }
     {
@@ -183,58 +216,95 @@ impl Database {
         let row = whole_row(alloc, new_stored(alloc, rid, name, value)?)?;
         let rows = vec![in alloc; row]?;
         let entry = new_entry(alloc, session, rid, name, value)?;
+        self.marks.reserve(1)?;
         self.history.push(entry)?;
         Ok(rows)
     }
 
-    // The reply to an INSERT. All memory is taken before the pages change.
-    fn insert(&mut self, alloc: Global, session: u8, name: &str, value: &str) -> Reply
+    // The reply to an INSERT that wasn't made. Its entry, the history's last, is taken back, and is doubtful where its write failed.
+    fn take_back(&mut self, alloc: Global, fault: InsertFault) -> Reply
+        ensures engine { self.new.engine ≡ self.old.engine }
+        ensures marks { self.new.marks.items ≡ self.old.marks.items }
+        ensures entry { (entries : List Entry) (entry : Entry) → self.old.history ≡ entries ++ entry ∷ []
+            → (self.new.history ≡ entries) × (self.new.doubt ≡ doubt_by fault self.old.doubt entry) }
+        ensures reply { reply_of result ≡ refused (replies.insert_refusal fault) }
+    {
+        let last = self.history.take_last();
+        if let InsertFault::Fault = fault {
+            self.doubt = last;
+            return refusal(alloc, Refusal::Fault);
+        }
+        refusal(alloc, insert_refusal(fault))
+    }
+
+    // The reply to an INSERT. Its entry joins the history before the log is written, and its mark after that.
+    fn insert<V: Volume>(
+        &mut self,
+        alloc: Global,
+        volume: &mut V,
+        session: u8,
+        name: &str,
+        value: &str,
+    ) -> Reply
         requires name { IsTrue (is_field_name name.now) }
         requires small { length name.now + length value.now ≤ MAX_LINE_BYTES }
-        ensures { (run : RunData) → Keeps self.old.engine (entries_of self.old.history) run
-            → IsInserted run session name.now value.now (reply_of result) self.new.engine (entries_of self.new.history) }
+        ensures inserted { (run : RunData) → Keeps (kept_of self.old) run → IsInserted run session name.now value.now (reply_of result) (kept_of self.new) }
+        ensures crash { Tells (StaysSafe self.old self.new) (V.story volume.old) (V.story volume.new) }
+        ensures marked { IsMarked self.old self.new (V.moment volume.new) }
+        ensures halts { MayHalt self.old.engine.halted self.new.engine.halted (V.faults volume.old) (V.faults volume.new) (V.log_faults volume.old) (V.log_faults volume.new) }
+        ensures fault_told { IsTrue (is_fault (told_of result.told)) → IsSome self.new.engine.halted }
     {
         let Ok(rows) = self.prepare(alloc, session, name, value) else {
             return refusal(alloc, Refusal::NoMemory);
         };
-        match self.engine.insert(alloc, name, value) {
-            Ok(_) => Reply {
-                rows: RowList::from_vec(rows),
-                told: Ok(1),
-            },
-            Err(fault) => {
-                self.history.drop_last();
-                match fault {
-                    InsertFault::ClusterFull => refusal(alloc, Refusal::ClusterFull { cluster: 1 }),
-                    InsertFault::NoMemory => refusal(alloc, Refusal::NoMemory),
+        match self.engine.insert(alloc, volume, name, value) {
+            Ok(()) => {
+                let _ = self.marks.push(volume.moment());
+                Reply {
+                    rows: RowList::from_vec(rows),
+                    told: Ok(1),
                 }
             }
+            Err(fault) => self.take_back(alloc, fault),
         }
     }
 
     // The reply to a session's statement.
-    fn execute(&mut self, alloc: Global, session: u8, text: &str) -> Reply
+    fn execute<V: Volume>(
+        &mut self,
+        alloc: Global,
+        volume: &mut V,
+        session: u8,
+        text: &str,
+    ) -> Reply
         requires { length text.now ≤ MAX_LINE_BYTES }
-        ensures { (run : RunData) → Keeps self.old.engine (entries_of self.old.history) run
-            → IsStepped run (statement session text.now) (to_session session (reply_of result)) self.new.engine (entries_of self.new.history) }
+        ensures stepped { (run : RunData) → Keeps (kept_of self.old) run
+            → IsStepped run (statement session text.now) (to_session session (reply_of result)) (kept_of self.new) }
+        ensures crash { Tells (StaysSafe self.old self.new) (V.story volume.old) (V.story volume.new) }
+        ensures marked { IsMarked self.old self.new (V.moment volume.new) }
+        ensures halts { MayHalt self.old.engine.halted self.new.engine.halted (V.faults volume.old) (V.faults volume.new) (V.log_faults volume.old) (V.log_faults volume.new) }
+        ensures fault_told { IsTrue (is_fault (told_of result.told)) → IsSome self.new.engine.halted }
     {
         match read_statement(text) {
-            Statement::Insert { name, value } => self.insert(alloc, session, name, value),
+            Statement::Insert { name, value } => self.insert(alloc, volume, session, name, value),
             Statement::Select { rid } => self.select(alloc, rid),
             Statement::Unbuilt => refusal(alloc, Refusal::Unbuilt),
         }
     }
 
     /// Runs a line of input, and answers what is printed for it.
-    pub fn answer(&mut self, alloc: Global, line: &Line) -> Answer
+    pub fn answer<V: Volume>(&mut self, alloc: Global, volume: &mut V, line: &Line) -> Answer
         requires { IsShort (line_of line.now) }
-        ensures { (run : RunData) → Keeps self.old.engine (entries_of self.old.history) run
-            → IsStepped run (line_of line.now) (answer_of result) self.new.engine (entries_of self.new.history) }
+        ensures stepped { (run : RunData) → Keeps (kept_of self.old) run → IsStepped run (line_of line.now) (answer_of result) (kept_of self.new) }
+        ensures crash { Tells (StaysSafe self.old self.new) (V.story volume.old) (V.story volume.new) }
+        ensures marked { IsMarked self.old self.new (V.moment volume.new) }
+        ensures halts { MayHalt self.old.engine.halted self.new.engine.halted (V.faults volume.old) (V.faults volume.new) (V.log_faults volume.old) (V.log_faults volume.new) }
+        ensures fault_told { IsTrue (tells_fault (answer_of result)) → IsSome self.new.engine.halted }
     {
         match line {
             Line::Statement { session, text } => Answer::ToSession {
                 session: *session,
-                reply: self.execute(alloc, *session, text.as_str()),
+                reply: self.execute(alloc, volume, *session, text.as_str()),
             },
             Line::Tries { session, .. } => Answer::ToSession {
                 session: *session,

@@ -1,191 +1,249 @@
-// The database as pages in memory, one record a page.
-ghost use Rattle.std.specs.Prelude.{◌≡◌, ◌+◌, ◌-◌, ◌≤◌, ◌<◌, ℕ, List, [], ◌∷◌, length, IfOk, OnErr, MatchOption, IsErrOf, None, Some, IsTrue};
+// The database: its pages in memory, and the log that holds them on the volume.
+ghost use Rattle.std.specs.Prelude.{◌≡◌, ◌≤◌, ◌<◌, ◌+◌, ℕ, List, length, IfOk, IfErr, IfSome, OnOk, OnErr, IsErrOf, IsTrue, ◌↔◌, None, Some, Err};
 ghost use Rattle.std.specs.Option.{option_map};
+ghost use Rattle.ori_bytes.specs.declared.limits.TheConstants.{MAX_LINE_BYTES};
+ghost use Rattle.ori_volume.specs.Story.{Tells};
 ghost use Rattle.ori_spec.specs.Base.{BaseData, initial_base};
 ghost use Rattle.ori_spec.specs.Apply.{apply_tx, cluster_without_room, fresh, next_of, rid_at};
 ghost use Rattle.ori_spec.specs.Statement.{is_field_name, insert_tx, record_at};
-ghost use Rattle.ori_spec.specs.Stage.{page_head, head_page, record_page, StandFor, IsSound};
+ghost use Rattle.ori_spec.specs.Stage.{StandFor, IsSound, IsDatabase};
+ghost use Rattle.ori_log.specs.Files.{files_data};
+ghost use Rattle.ori_log.specs.Appending.{room_of, FailsAs};
 ghost use Rattle.orient_run.specs.Records.{record_of};
+ghost use Rattle.orient_run.specs.Opening.{Finds};
+ghost use Rattle.orient_run.specs.Pages.{insert_images, IsOpened, IsNoTable};
+ghost use Rattle.ori_volume.specs.declared.file.FileNo.{FileNo};
 
 use crate::model::Stored;
-use crate::record::{RecordFault, read_record, write_record};
-use ori_bytes::limits::{
-    FIRST_CLUSTER_OWNER, HEAD_KIND, HEAD_OWNER, MAX_LINE_BYTES, MAX_POSITIONS, PAGE_BYTES,
-    RECORD_PAGE_HEAD, SLOTS_KIND, STAGE_FORMAT,
-};
-use ori_bytes::{Blob, NoMemory, Rid};
+use crate::opening::read_pages;
+use crate::table::{NewPages, RecordRefused, Table};
+use ori_bytes::{NoMemory, Rid};
+use ori_log::{ImageList, Log, LogFault, PageImage};
 use ori_page::Page;
-use std::alloc::Global;
-use std::marker::Model;
+use ori_volume::{Failed, Volume};
+use std::alloc::{AllocFailed, Global};
 use thiserror::Error;
 
-// The cluster of class V.
-const FIRST_CLUSTER: i16 = 1;
-
-// The version of a record that was committed once.
-const FIRST_VERSION: u32 = 1;
-
-// Where a record page has its record's length.
-const LENGTH_AT: usize = 8;
-
-/// Why nothing was inserted.
+/// Why a volume wasn't opened.
 #[derive(Clone, Copy, Debug, PartialEq, Eq, Error)]
-pub enum InsertFault {
-    /// Each position of cluster 1 is given.
-    #[error("the cluster is full")]
-    ClusterFull,
+pub enum StartFault {
+    /// The volume failed.
+    #[error("the volume failed")]
+    Fault,
+    /// The files aren't of the form of a database.
+    #[error("the files are not those of a database")]
+    NotADatabase,
     /// No memory was to be had.
     #[error("out of memory")]
     NoMemory,
 }
 
-impl From<NoMemory> for InsertFault {
-    ghost use Rattle.orient_run.specs.declared.engine.InsertFault.{InsertFault};
+impl From<Failed> for StartFault {
+    ghost use Rattle.orient_run.specs.declared.engine.StartFault.{StartFault};
 
-    ghost from_gives = { λ _ e. e ≡ InsertFault.NoMemory };
+    ghost from_gives = { λ _ e. e ≡ StartFault.Fault };
 
-    fn from(_: NoMemory) -> Self {
-        InsertFault::NoMemory
+    fn from(_: Failed) -> Self {
+        StartFault::Fault
     }
 }
 
-/// The database, which a contract sees as the list of its pages.
-#[derive(Debug, Drop)]
-pub struct Engine {
-    pages: Vec<Page>,
+impl From<NoMemory> for StartFault {
+    ghost use Rattle.orient_run.specs.declared.engine.StartFault.{StartFault};
+
+    ghost from_gives = { λ _ e. e ≡ StartFault.NoMemory };
+
+    fn from(_: NoMemory) -> Self {
+        StartFault::NoMemory
+    }
 }
 
-impl Model for Engine {
-    ghost use Rattle.std.specs.Prelude.{ℕ, List};
-    ghost use Rattle.orient_run.specs.Pages.{AreCounted};
+impl<T: Drop> From<AllocFailed<T>> for StartFault {
+    ghost use Rattle.orient_run.specs.declared.engine.StartFault.{StartFault};
 
-    ghost Value = { List (List ℕ) };
+    ghost from_gives = { λ _ e. e ≡ StartFault.NoMemory };
 
-    ghost view = { λ e. e.pages.items };
+    fn from(_: AllocFailed<T>) -> Self {
+        StartFault::NoMemory
+    }
+}
 
-    ghost invariant = { λ e. AreCounted e.pages.items };
+/// Why nothing was inserted.
+#[derive(Clone, Copy, Debug, PartialEq, Eq, Error)]
+pub enum InsertFault {
+    /// The log failed before, when so many calls of the volume had failed.
+    #[error("the log has failed")]
+    Halted { at_fault: u64 },
+    /// Each position of cluster 1 is given.
+    #[error("the cluster is full")]
+    ClusterFull,
+    /// The log needs more bytes than it has room for.
+    #[error("the log needs {need} bytes and has room for {room}")]
+    LogFull { need: u64, room: u64 },
+    /// The log failed. What a crash leaves from now on has the insert or not.
+    #[error("the volume failed")]
+    Fault,
+    /// No memory was to be had.
+    #[error("out of memory")]
+    NoMemory,
+}
+
+/// The database of a volume that was opened.
+#[derive(Debug, Drop)]
+pub struct Engine {
+    pub table: Table,
+    pub log: Log,
+    /// How many calls of the volume had failed when the log failed, where it did.
+    pub halted: Option<u64>,
+}
+
+// Why a log wasn't attached. An attach is never refused for want of room.
+fn start_fault(fault: LogFault) -> StartFault
+    ensures failed { result ≡ StartFault.Fault → fault ≡ LogFault.Failed }
+    ensures form { result ≡ StartFault.NotADatabase → (file : FileNo) × (fault ≡ LogFault.NotALog file) }
+{
+    match fault {
+        LogFault::Failed => StartFault::Fault,
+        LogFault::NotALog { .. } => StartFault::NotADatabase,
+        LogFault::LogFull { .. } | LogFault::NoMemory => StartFault::NoMemory,
+    }
+}
+
+// The images of the two pages that an insert changes, of which the new one has this number.
+fn images_of(alloc: Global, page: u32, new: NewPages) -> Result<ImageList, NoMemory>
+    ensures { IfOk result (λ images. images ≡ insert_images page new) }
+{
+    let NewPages { head, record } = new;
+    let mut images = ImageList::new(alloc);
+    images.push(PageImage {
+        page: 0,
+        content: head,
+    })?;
+    images.push(PageImage {
+        page,
+        content: record,
+    })?;
+    Ok(images)
+}
+
+// The two pages back.
+fn pages_back(images: ImageList) -> Option<NewPages>
+    ensures { (page : ℕ) (new : NewPages) → images ≡ insert_images page new → result ≡ Some new }
+{
+    let mut images = images.into_vec();
+    let record = images.pop()?.content;
+    let head = images.pop()?.content;
+    Some(NewPages { head, record })
 }
 
 impl Engine {
-    /// The empty database.
-    pub fn new(alloc: Global) -> Result<Engine, NoMemory>
-        ensures { IfOk result (λ engine. StandFor engine initial_base) }
+    ghost use Rattle.orient_run.specs.Engine.{Starts, Inserts, IsStarted, IsDecided, Refuses, HaltsBy};
+
+    /// Opens a volume. Its log is attached, whose images and the homes behind them give the pages; the files of an empty volume are
+    /// made. `NotADatabase` comes exactly where the files aren't of the form, and they are as they were then. Whatever the answer,
+    /// and whenever a crash comes, the files open to what they opened to before.
+    pub fn start<V: Volume>(alloc: Global, volume: &mut V) -> Result<Engine, StartFault>
+        ensures found { IfOk result (λ engine. (base : BaseData) (room : ℕ) → Finds (V.files volume.old) base room → IsStarted engine base room) }
+        ensures fresh { IfOk result (λ engine. engine.halted ≡ None) }
+        ensures database { OnOk result (IfSome (V.files volume.old) (λ fs. IsDatabase (files_data fs))) }
+        ensures not_a_database { IsErrOf result StartFault.NotADatabase → IfSome (V.files volume.old) (λ fs. IsDatabase (files_data fs) → ⊥) }
+        ensures refused { IsErrOf result StartFault.NotADatabase → V.files volume.new ≡ V.files volume.old }
+        ensures crash { Tells (Starts result) (V.story volume.old) (V.story volume.new) }
+        ensures faults { FailsAs StartFault.Fault (V.faults volume.old) (V.faults volume.new) result }
+        ensures log_faults { V.log_faults volume.old ≤ V.log_faults volume.new }
     {
-        let mut pages = Vec::new(alloc);
-        pages.push(head_page(alloc, 1)?)?;
-        Ok(Engine { pages })
+        let (log, images) = match Log::attach(alloc, volume) {
+            Ok(attached) => attached,
+            Err(fault) => return Err(start_fault(fault)),
+        };
+        let pages = read_pages(alloc, volume, images)?;
+        Ok(Engine {
+            table: open_table(alloc, pages)?,
+            log,
+            halted: None,
+        })
+    }
+
+    /// Whether the volume holds the initial base.
+    pub fn is_initial(&self) -> bool
+        ensures { (base : BaseData) → IsSound base → StandFor self.now.table.pages.items base → IsTrue result ↔ (base ≡ initial_base) }
+    {
+        self.table.is_initial()
     }
 
     /// The identifier that the next new record gets.
     pub fn next_rid(&self) -> Rid
-        ensures { (base : BaseData) → IsSound base → StandFor self.now base → result ≡ rid_at 1 (next_of base.next 1) }
+        ensures { (base : BaseData) → IsSound base → StandFor self.now.table.pages.items base → result ≡ rid_at 1 (next_of base.next 1) }
     {
-        Rid {
-            cluster: FIRST_CLUSTER,
-            position: (self.pages.len() - 1) as i64,
-        }
+        self.table.next_rid()
     }
 
     /// The record with this identifier, or none.
     pub fn fetch(&self, alloc: Global, rid: Rid) -> Result<Option<Stored>, NoMemory>
-        ensures { IfOk result (λ found. (base : BaseData) → IsSound base → StandFor self.now base
+        ensures { IfOk result (λ found. (base : BaseData) → IsSound base → StandFor self.now.table.pages.items base
             → option_map record_of found ≡ record_at base.stored rid) }
     {
-        let Some(index) = page_of(rid) else {
-            return Ok(None);
-        };
-        let Some(page) = self.pages.get(index) else {
-            return Ok(None);
-        };
-        let Some(bytes) = record_bytes(page) else {
-            return Ok(None);
-        };
-        match read_record(alloc, bytes, rid) {
-            Ok(record) => Ok(Some(record)),
-            Err(RecordFault::NotRecord) => Ok(None),
-            Err(RecordFault::NoMemory) => Err(NoMemory),
-        }
+        self.table.fetch(alloc, rid)
     }
 
-    /// Inserts a record of class V with one field. ClusterFull where cluster 1 has given each of its positions. Unchanged
-    /// after an error.
-    pub fn insert(&mut self, alloc: Global, name: &str, value: &str) -> Result<Rid, InsertFault>
+    /// Inserts a record of class V with one field, by one record of the log. It is refused, in this order: Halted exactly where the
+    /// log failed before, ClusterFull exactly where cluster 1 has given each of its positions, LogFull exactly where the log needs
+    /// more bytes than it has room for. Fault comes only where the log failed in this call, which halts it. After every
+    /// refusal but Fault nothing has changed, and after Fault the pages in memory haven't.
+    pub fn insert<V: Volume>(
+        &mut self,
+        alloc: Global,
+        volume: &mut V,
+        name: &str,
+        value: &str,
+    ) -> Result<(), InsertFault>
         requires name { IsTrue (is_field_name name.now) }
         requires small { length name.now + length value.now ≤ MAX_LINE_BYTES }
-        // The base has room for the record, which gets its fresh identifier, and the pages stand for the base with it.
-        ensures ok { IfOk result (λ rid. (base : BaseData) → IsSound base → StandFor self.old base
-            → (cluster_without_room base (insert_tx name.now value.now) ≡ None) × (rid ∷ [] ≡ fresh base (insert_tx name.now value.now))
-            × IsSound (apply_tx base (insert_tx name.now value.now)) × StandFor self.new (apply_tx base (insert_tx name.now value.now))) }
-        ensures full { IsErrOf result InsertFault.ClusterFull → (base : BaseData) → IsSound base → StandFor self.old base
-            → cluster_without_room base (insert_tx name.now value.now) ≡ Some 1 }
-        ensures err { OnErr result (self.new ≡ self.old) }
+        ensures decided { (base : BaseData) → IsSound base → StandFor self.old.table.pages.items base
+            → IsDecided base (insert_tx name.now value.now) self.old self.new result }
+        ensures refused { Refuses self.old self.new volume.old volume.new result }
+        ensures crash { Tells (Inserts self.old self.new name.now value.now result) (V.story volume.old) (V.story volume.new) }
+        ensures faults { FailsAs InsertFault.Fault (V.faults volume.old) (V.faults volume.new) result }
+        ensures log_faults { FailsAs InsertFault.Fault (V.log_faults volume.old) (V.log_faults volume.new) result }
+        ensures halted { HaltsBy self.old.halted self.new.halted (V.faults volume.new) result }
     {
-        let count = self.pages.len();
-        if count > MAX_POSITIONS as usize {
-            return Err(InsertFault::ClusterFull);
+        if let Some(at_fault) = self.halted {
+            return Err(InsertFault::Halted { at_fault });
         }
-        let rid = self.next_rid();
-        let spelling = write_record(alloc, FIRST_VERSION, "V", name, value)?;
-        let page = record_page(alloc, spelling.as_slice())?;
-        let head = head_page(alloc, (count + 1) as u32)?;
-        self.pages.push(page).map_err(|_| InsertFault::NoMemory)?;
-        self.pages[0] = head;
-        Ok(rid)
+        let page = self.table.len();
+        let new = match self.table.make_pages(alloc, name, value) {
+            Ok(new) => new,
+            Err(RecordRefused::ClusterFull) => return Err(InsertFault::ClusterFull),
+            Err(RecordRefused::NoMemory) => return Err(InsertFault::NoMemory),
+        };
+        let Ok(images) = images_of(alloc, page, new) else {
+            return Err(InsertFault::NoMemory);
+        };
+        if let Err(fault) = self.log.append(volume, &images) {
+            if let LogFault::LogFull { need, room } = fault {
+                return Err(InsertFault::LogFull { need, room });
+            }
+            self.halted = Some(volume.faults());
+            return Err(InsertFault::Fault);
+        }
+        if let Some(new) = pages_back(images) {
+            self.table.grow(new);
+        }
+        Ok(())
     }
 }
 
-// The page of a position of cluster 1.
-fn page_of(rid: Rid) -> Option<usize>
-    ensures { MatchOption result ((p : ℕ) → rid ≡ rid_at 1 p → ⊥) (λ index. (p : ℕ) × (index ≡ p + 1) × (rid ≡ rid_at 1 p)) }
+// The pages that were found as a table. Files without a page hold the initial base.
+fn open_table(alloc: Global, pages: Vec<Page>) -> Result<Table, StartFault>
+    ensures opened { IfOk result (λ table. IsOpened pages.items table.pages.items) }
+    ensures none { IsErrOf result StartFault.NotADatabase → IsNoTable pages.items }
+    ensures fault { IsErrOf result StartFault.Fault → ⊥ }
 {
-    if rid.cluster != FIRST_CLUSTER || rid.position < 0 {
-        return None;
+    if pages.is_empty() {
+        return Ok(Table::new(alloc)?);
     }
-    Some(rid.position as usize + 1)
-}
-
-// The bytes of the record on a page, if it has one.
-fn record_bytes(page: &Page) -> Option<&[u8]>
-    ensures { (bytes : List ℕ) → page.now ≡ record_page bytes
-        → MatchOption result (bytes ≡ []) (λ found. (found.now ≡ bytes) × (0 < length bytes)) }
-{
-    let bytes = page.bytes();
-    let length = page.u16_at(LENGTH_AT) as usize;
-    if length == 0 || length > PAGE_BYTES - RECORD_PAGE_HEAD {
-        return None;
+    match Table::of_pages(alloc, pages)? {
+        Some(table) => Ok(table),
+        None => Err(StartFault::NotADatabase),
     }
-    Some(&bytes[RECORD_PAGE_HEAD..RECORD_PAGE_HEAD + length])
 }
-
-// What a page of this owner and kind begins with.
-fn page_head(alloc: Global, owner: u32, kind: u8) -> Result<Blob, NoMemory>
-    ensures { IfOk result (λ bytes. bytes ≡ page_head owner kind) }
-{
-    let mut head = Blob::from_slice(alloc, &owner.to_be_bytes())?;
-    head.extend_from_slice(&[kind, 0, 0, 0])?;
-    Ok(head)
-}
-
-// Page 0 of so many pages.
-fn head_page(alloc: Global, count: u32) -> Result<Page, NoMemory>
-    ensures { IfOk result (λ page. page ≡ head_page count) }
-{
-    let mut front = page_head(alloc, HEAD_OWNER, HEAD_KIND)?;
-    front.extend_from_slice(&STAGE_FORMAT.to_be_bytes())?;
-    front.extend_from_slice(&count.to_be_bytes())?;
-    Page::filled(alloc, front.as_slice())
-}
-
-// The page of a record of cluster 1.
-fn record_page(alloc: Global, spelling: &[u8]) -> Result<Page, NoMemory>
-    requires { length spelling.now + RECORD_PAGE_HEAD ≤ PAGE_BYTES }
-    ensures { IfOk result (λ page. page ≡ record_page spelling.now) }
-{
-    let mut front = page_head(alloc, FIRST_CLUSTER_OWNER, SLOTS_KIND)?;
-    front.extend_from_slice(&(spelling.len() as u16).to_be_bytes())?;
-    front.extend_from_slice(spelling)?;
-    Page::filled(alloc, front.as_slice())
-}
-
-#[cfg(test)]
-mod tests;

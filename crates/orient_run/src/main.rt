@@ -4,10 +4,14 @@
 //! real ones.
 #![tactic(auto)]
 
+ghost use Rattle.std.specs.Prelude.{◌≡◌};
+ghost use Rattle.std.specs.IoError.{error_kind};
+
 mod database;
 mod engine;
 mod files;
 mod model;
+mod opening;
 mod orient;
 mod outcome;
 mod record;
@@ -16,6 +20,7 @@ mod run;
 mod statement;
 mod status;
 mod streams;
+mod table;
 #[cfg(test)]
 mod tests;
 mod value;
@@ -23,15 +28,28 @@ mod value;
 use files::FileVolume;
 use ori_volume::NoGate;
 use std::env;
+use std::io::{self, ErrorKind};
 use std::process::ExitCode;
 use streams::{StdSink, StdSource};
 
 const USAGE: &str = "usage: orient_run <folder> script | load <n> | check | sessions";
 
+// The status of what failed before the top call, or that of want of memory where that was the cause.
+fn fault_status(error: &io::Error, other: u8) -> u8
+    ensures memory { error_kind error.now ≡ ErrorKind.OutOfMemory → result ≡ 2 }
+    ensures other { (error_kind error.now ≡ ErrorKind.OutOfMemory → ⊥) → result ≡ other }
+{
+    match error.kind() {
+        ErrorKind::OutOfMemory => status::NO_MEMORY,
+        _ => other,
+    }
+}
+
 // The status of a command over a folder.
 fn command(rt: &HostRuntime, folder: &str, words: &[String]) -> u8 {
-    let Ok(volume) = FileVolume::open(rt, folder) else {
-        return status::VOLUME_FAILED;
+    let volume = match FileVolume::open(rt, folder) {
+        Ok(volume) => volume,
+        Err(error) => return fault_status(&error, status::VOLUME_FAILED),
     };
     let mut source = StdSource::new(rt.stdin());
     let mut sink = StdSink::new(rt.stdout());
@@ -41,8 +59,9 @@ fn command(rt: &HostRuntime, folder: &str, words: &[String]) -> u8 {
 
 // The status of the whole command line.
 fn command_line(rt: &HostRuntime) -> u8 {
-    let Ok(args) = env::args(rt) else {
-        return status::WRONG_WORDS;
+    let args = match env::args(rt) {
+        Ok(args) => args,
+        Err(error) => return fault_status(&error, status::WRONG_WORDS),
     };
     let words: Result<Vec<String>, _> = args.collect(rt.alloc());
     match words {

@@ -1,5 +1,5 @@
 // Records, transactions and the history, as far as statements make them.
-ghost use Rattle.std.specs.Prelude.{◌≡◌, ◌++◌, [], ◌∷◌, List, ℕ, length, OnOk, OnErr};
+ghost use Rattle.std.specs.Prelude.{◌≡◌, ◌++◌, [], ◌∷◌, Some, List, ℕ, length, OnOk, OnErr};
 ghost use Rattle.orient_run.specs.declared.model.Entry.{Entry};
 
 use crate::value::FieldList;
@@ -70,6 +70,32 @@ impl Model for EntryList {
     ghost view = { λ l. l.entries.items };
 }
 
+/// A list of entries, each with the length that the history had when its write failed. A contract sees it as that list.
+#[derive(Debug, Drop)]
+pub struct PlacedList {
+    entries: Vec<(u64, Entry)>,
+}
+
+impl Model for PlacedList {
+    ghost use Rattle.std.specs.Prelude.{ℕ, List};
+    ghost use Rattle.orient_run.specs.declared.model.Entry.{Entry};
+
+    ghost Value = { List (ℕ × Entry) };
+
+    ghost view = { λ l. l.entries.items };
+}
+
+impl PlacedList {
+    /// The empty list; takes no memory.
+    pub fn new(alloc: Global) -> Self
+        ensures { result ≡ [] }
+    {
+        PlacedList {
+            entries: Vec::new(alloc),
+        }
+    }
+}
+
 impl ChangeList {
     /// Owns a `Vec`; takes no memory.
     pub fn from_vec(changes: Vec<Change>) -> Self
@@ -113,9 +139,9 @@ impl EntryList {
     }
 
     /// Takes the last entry away, where there is one.
-    pub fn drop_last(&mut self)
-        ensures { (entries : List Entry) (entry : Entry) → self.old ≡ entries ++ entry ∷ [] → self.new ≡ entries }
+    pub fn take_last(&mut self) -> Option<Entry>
+        ensures { (entries : List Entry) (entry : Entry) → self.old ≡ entries ++ entry ∷ [] → (self.new ≡ entries) × (result ≡ Some entry) }
     {
-        let _ = self.entries.pop();
+        self.entries.pop()
     }
 }

@@ -1,17 +1,21 @@
 // The top call.
-ghost use Rattle.std.specs.Prelude.{◌≡◌, ◌⊎◌, ◌≤◌, ◌↔◌, [], map, length, false, IfSome, IfOk, IsTrue, string_bytes};
-ghost use Rattle.ori_volume.specs.Causes.{HasCause, Rose};
-ghost use Rattle.ori_volume.specs.Disk.{of_file};
-ghost use Rattle.orient_run.specs.Records.{entries_of};
+ghost use Rattle.std.specs.Prelude.{◌≡◌, ◌⊎◌, ◌≤◌, ◌↔◌, [], map, true, false, None, IfSome, string_bytes};
+ghost use Rattle.ori_volume.specs.Causes.{Rose};
+ghost use Rattle.ori_volume.specs.Story.{Tells};
+ghost use Rattle.ori_spec.specs.Stage.{IsDatabase};
+ghost use Rattle.ori_log.specs.Files.{files_data};
+ghost use Rattle.orient_run.specs.Reports.{report_of};
 ghost use Rattle.orient_run.specs.Words.{is_script};
-ghost use Rattle.orient_run.specs.Top.{AreEmpty, Untouched, IsOutcome};
+ghost use Rattle.orient_run.specs.Top.{IsNotRun, IsRunOver, Crashes, IsFaultless};
 
 use crate::database::Database;
-use crate::model::EntryList;
+use crate::engine::{Engine, StartFault};
+use crate::model::{EntryList, PlacedList};
 use crate::outcome::{Outcome, Report};
 use crate::run::run_lines;
 use crate::status;
-use ori_volume::{Failed, FileNo, Gate, Sink, Source, Volume};
+use ori_bytes::NumberList;
+use ori_volume::{Gate, Sink, Source, Volume};
 use std::alloc::Global;
 
 // Whether the words are the one word `script`.
@@ -24,83 +28,86 @@ fn is_script_words(words: &[String]) -> bool
     }
 }
 
-// Whether a file has no byte.
-fn is_file_empty<V: Volume>(volume: &mut V, file: FileNo) -> Result<bool, Failed>
-    ensures value { IfOk result (λ b. IfSome (V.files volume.old) (λ fs. IsTrue b ↔ (length (of_file fs file) ≡ 0))) }
-    ensures same { Untouched V.files V.story V.moment V.log_faults volume.old volume.new }
-    ensures cause { HasCause (V.faults volume.old) (V.faults volume.new) result }
+// A report of no run.
+fn no_report(alloc: Global) -> Report
+    ensures { report_of result ≡ record { was_empty = false; history = []; doubt = None; failed = []; marks = [] } }
 {
-    Ok(volume.len(file)? == 0)
-}
-
-// Whether none of the four files has a byte.
-fn is_empty<V: Volume>(volume: &mut V) -> Result<bool, Failed>
-    ensures value { IfOk result (λ b. IfSome (V.files volume.old) (λ fs. IsTrue b ↔ AreEmpty fs)) }
-    ensures same { Untouched V.files V.story V.moment V.log_faults volume.old volume.new }
-    ensures cause { HasCause (V.faults volume.old) (V.faults volume.new) result }
-{
-    let master = is_file_empty(volume, FileNo::Master)?;
-    let log_a = is_file_empty(volume, FileNo::LogA)?;
-    let log_b = is_file_empty(volume, FileNo::LogB)?;
-    let pages = is_file_empty(volume, FileNo::Pages)?;
-    Ok(master && log_a && log_b && pages)
-}
-
-// An outcome without a run.
-fn not_run<V: Volume>(alloc: Global, status: u8, volume: V) -> Outcome<V>
-    ensures status { result.status ≡ status }
-    ensures volume { result.volume ≡ volume }
-    ensures was_empty { result.report.was_empty ≡ false }
-    ensures history { entries_of result.report.history ≡ [] }
-{
-    Outcome {
-        status,
-        volume,
-        report: Report {
-            was_empty: false,
-            history: EntryList::new(alloc),
-        },
+    Report {
+        was_empty: false,
+        history: EntryList::new(alloc),
+        doubt: None,
+        failed: PlacedList::new(alloc),
+        marks: NumberList::new(alloc),
     }
 }
 
-// Runs a script over a volume that was found empty.
+// The status of a volume that wasn't opened.
+fn start_status(fault: StartFault) -> u8
+    ensures volume { result ≡ 5 → fault ≡ StartFault.Fault }
+    ensures form { result ≡ 6 → fault ≡ StartFault.NotADatabase }
+    ensures why { (result ≡ 2) ⊎ (result ≡ 5) ⊎ (result ≡ 6) }
+{
+    match fault {
+        StartFault::Fault => status::VOLUME_FAILED,
+        StartFault::NotADatabase => status::NOT_A_DATABASE,
+        StartFault::NoMemory => status::NO_MEMORY,
+    }
+}
+
+// Runs a script over a volume.
 fn run_script<V: Volume, S: Source, K: Sink>(
     alloc: Global,
-    volume: V,
+    volume: &mut V,
     source: &mut S,
     sink: &mut K,
-) -> Outcome<V>
-    ensures run { IsOutcome result.report.was_empty (S.left source.old) (S.left source.new) (K.taken sink.old) (K.taken sink.new) result.status (entries_of result.report.history) }
-    ensures volume { result.volume ≡ volume }
-    ensures statuses { (result.status ≡ 1 → ⊥) × (result.status ≡ 5 → ⊥) × (result.status ≡ 6 → ⊥) }
+) -> (u8, Report)
+    ensures outcome { IsNotRun (S.left source.old) (S.left source.new) (K.taken sink.old) (K.taken sink.new) result.0 (report_of result.1)
+        ⊎ IsRunOver (V.files volume.old) (S.left source.old) (S.left source.new) (K.taken sink.old) (K.taken sink.new)
+        (V.faults volume.old) (V.faults volume.new) (V.log_faults volume.old) (V.log_faults volume.new) result.0 (report_of result.1) }
+    ensures crash { Tells (Crashes (report_of result.1)) (V.story volume.old) (V.story volume.new) }
+    ensures no_words { result.0 ≡ 1 → ⊥ }
+    ensures kept { result.0 ≡ 6 → V.files volume.new ≡ V.files volume.old }
+    ensures not_a_database { IfSome (V.files volume.old) (λ fs. result.0 ≡ 6 → IsDatabase (files_data fs) → ⊥) }
+    ensures only_database { IfSome (V.files volume.old) (λ fs. (IsDatabase (files_data fs) → ⊥) → (result.0 ≡ 2) ⊎ (result.0 ≡ 5) ⊎ (result.0 ≡ 6)) }
+    ensures source_fault { result.0 ≡ 3 → Rose (S.faults source.old) (S.faults source.new) }
+    ensures sink_fault { result.0 ≡ 4 → Rose (K.faults sink.old) (K.faults sink.new) }
+    ensures volume_fault { result.0 ≡ 5 → Rose (V.faults volume.old) (V.faults volume.new) }
     ensures source_later { S.faults source.old ≤ S.faults source.new }
     ensures sink_later { K.faults sink.old ≤ K.faults sink.new }
-    ensures source_fault { result.status ≡ 3 → Rose (S.faults source.old) (S.faults source.new) }
-    ensures sink_fault { result.status ≡ 4 → Rose (K.faults sink.old) (K.faults sink.new) }
+    ensures volume_later { V.faults volume.old ≤ V.faults volume.new }
+    ensures log_later { V.log_faults volume.old ≤ V.log_faults volume.new }
 {
-    let Ok(mut database) = Database::new(alloc) else {
-        return not_run(alloc, status::NO_MEMORY, volume);
+    let engine = match Engine::start(alloc, volume) {
+        Ok(engine) => engine,
+        Err(fault) => return (start_status(fault), no_report(alloc)),
     };
-    let status = run_lines(alloc, &mut database, source, sink);
-    let Database { engine, history } = database;
+    let was_empty = engine.is_initial();
+    let mut database = Database::new(alloc, engine);
+    let status = run_lines(alloc, &mut database, volume, source, sink);
+    let Database {
+        engine,
+        history,
+        marks,
+        doubt,
+    } = database;
     drop(engine);
-    Outcome {
-        status,
-        volume,
-        report: Report {
-            was_empty: true,
-            history,
-        },
-    }
+    let report = Report {
+        was_empty,
+        history,
+        doubt,
+        failed: PlacedList::new(alloc),
+        marks: NumberList::from_vec(marks),
+    };
+    (status, report)
 }
 
 /// Runs the command that the words say, on one thread. It returns, whatever the volume, the source and the sink hold or do.
 ///
-/// The one command so far is `script`, over a volume whose four files are empty; its pages live in memory alone. The volume is
-/// asked for the lengths of its files, and stays as it was. Lines are read and answered one after the
-/// other, each before the next is read. The status is 0 at the end of the input; 1 for other words, before any call; 2 where
-/// memory is wanting outside a statement; 3 where the source failed, 4 the sink, 5 the volume; 6 where the volume isn't
-/// empty; 8 at a line that is none of the forms; 9 at the line in which the first byte past 2^30 lies.
+/// The one command so far is `script`. The volume is opened: the files of an empty one are made, and of another the log is read.
+/// Then lines are read and answered one after the other, each before the next is read. The status is 0 at the end of the input; 1
+/// for other words, before any call; 2 where memory is wanting outside a statement; 3 where the source failed, 4 the sink, 5 the
+/// volume while it was opened; 6 where its files aren't those of a database; 8 at a line that is none of the forms; 9 at the line
+/// in which the first byte past 2^30 lies.
 pub fn orient_alone<V: Volume, S: Source, K: Sink>(
     alloc: Global,
     words: &[String],
@@ -112,13 +119,24 @@ pub fn orient_alone<V: Volume, S: Source, K: Sink>(
     ensures usage { (result.status ≡ 1) ↔ (is_script (map (λ w. string_bytes w) words.now) ≡ false) }
     ensures unused { result.status ≡ 1 → (result.volume ≡ volume) × (source.new ≡ source.old) × (sink.new ≡ sink.old) }
 
-    // What was read, what was answered, the history, and why it ended.
-    ensures run { IsOutcome result.report.was_empty (S.left source.old) (S.left source.new) (K.taken sink.old) (K.taken sink.new) result.status (entries_of result.report.history) }
+    // What was read, what was answered, the history, whether the volume held the initial base, and why the run ended.
+    ensures outcome { IsNotRun (S.left source.old) (S.left source.new) (K.taken sink.old) (K.taken sink.new) result.status (report_of result.report)
+        ⊎ IsRunOver (V.files volume) (S.left source.old) (S.left source.new) (K.taken sink.old) (K.taken sink.new)
+        (V.faults volume) (V.faults result.volume) (V.log_faults volume) (V.log_faults result.volume) result.status (report_of result.report) }
 
-    // Status 6 comes exactly where the files, as they read, aren't empty, unless they couldn't be asked.
-    ensures not_empty { IfSome (V.files volume) (λ fs. result.status ≡ 6 → AreEmpty fs → ⊥) }
-    ensures only_empty { IfSome (V.files volume) (λ fs. (AreEmpty fs → ⊥) → (result.status ≡ 1) ⊎ (result.status ≡ 5) ⊎ (result.status ≡ 6)) }
-    ensures untouched { Untouched V.files V.story V.moment V.log_faults volume result.volume }
+    // A crash at any moment leaves a prefix of the history with every entry that was acknowledged.
+    ensures crash { Tells (Crashes (report_of result.report)) (V.story volume) (V.story result.volume) }
+
+    // Status 6 comes exactly where the files, as they read, aren't those of a database, unless memory or the volume failed before.
+    // They read the same then.
+    ensures not_a_database { IfSome (V.files volume) (λ fs. result.status ≡ 6 → IsDatabase (files_data fs) → ⊥) }
+    ensures kept { result.status ≡ 6 → V.files result.volume ≡ V.files volume }
+    ensures only_database { IfSome (V.files volume) (λ fs. (IsDatabase (files_data fs) → ⊥) → (result.status ≡ 1) ⊎ (result.status ≡ 2) ⊎ (result.status ≡ 5) ⊎ (result.status ≡ 6)) }
+
+    // Over a volume that opens, valid input without a fault is run to its end, unless memory is wanting.
+    ensures complete { is_script (map (λ w. string_bytes w) words.now) ≡ true
+        → IsFaultless (V.files volume) (S.left source.old) (V.faults volume) (V.faults result.volume) (S.faults source.old) (S.faults source.new) (K.faults sink.old) (K.faults sink.new)
+        → (result.status ≡ 0) ⊎ (result.status ≡ 2) }
 
     // A fault is answered only where it was one of the object's.
     ensures source_fault { result.status ≡ 3 → Rose (S.faults source.old) (S.faults source.new) }
@@ -127,15 +145,21 @@ pub fn orient_alone<V: Volume, S: Source, K: Sink>(
     ensures source_later { S.faults source.old ≤ S.faults source.new }
     ensures sink_later { K.faults sink.old ≤ K.faults sink.new }
     ensures volume_later { V.faults volume ≤ V.faults result.volume }
+    ensures log_later { V.log_faults volume ≤ V.log_faults result.volume }
 {
-    if !is_script_words(words) {
-        return not_run(alloc, status::WRONG_WORDS, volume);
-    }
     let mut volume = volume;
-    match is_empty(&mut volume) {
-        Ok(true) => run_script(alloc, volume, source, sink),
-        Ok(false) => not_run(alloc, status::NOT_A_DATABASE, volume),
-        Err(Failed) => not_run(alloc, status::VOLUME_FAILED, volume),
+    if !is_script_words(words) {
+        return Outcome {
+            status: status::WRONG_WORDS,
+            volume,
+            report: no_report(alloc),
+        };
+    }
+    let (status, report) = run_script(alloc, &mut volume, source, sink);
+    Outcome {
+        status,
+        volume,
+        report,
     }
 }
 
@@ -152,11 +176,19 @@ pub fn orient<V: Volume + Send, S: Source, K: Sink, G: Gate + Sync>(
     ensures usage { (result.status ≡ 1) ↔ (is_script (map (λ w. string_bytes w) words.now) ≡ false) }
     ensures unused { result.status ≡ 1 → (result.volume ≡ volume) × (source.new ≡ source.old) × (sink.new ≡ sink.old) }
 
-    ensures run { IsOutcome result.report.was_empty (S.left source.old) (S.left source.new) (K.taken sink.old) (K.taken sink.new) result.status (entries_of result.report.history) }
+    ensures outcome { IsNotRun (S.left source.old) (S.left source.new) (K.taken sink.old) (K.taken sink.new) result.status (report_of result.report)
+        ⊎ IsRunOver (V.files volume) (S.left source.old) (S.left source.new) (K.taken sink.old) (K.taken sink.new)
+        (V.faults volume) (V.faults result.volume) (V.log_faults volume) (V.log_faults result.volume) result.status (report_of result.report) }
 
-    ensures not_empty { IfSome (V.files volume) (λ fs. result.status ≡ 6 → AreEmpty fs → ⊥) }
-    ensures only_empty { IfSome (V.files volume) (λ fs. (AreEmpty fs → ⊥) → (result.status ≡ 1) ⊎ (result.status ≡ 5) ⊎ (result.status ≡ 6)) }
-    ensures untouched { Untouched V.files V.story V.moment V.log_faults volume result.volume }
+    ensures crash { Tells (Crashes (report_of result.report)) (V.story volume) (V.story result.volume) }
+
+    ensures not_a_database { IfSome (V.files volume) (λ fs. result.status ≡ 6 → IsDatabase (files_data fs) → ⊥) }
+    ensures kept { result.status ≡ 6 → V.files result.volume ≡ V.files volume }
+    ensures only_database { IfSome (V.files volume) (λ fs. (IsDatabase (files_data fs) → ⊥) → (result.status ≡ 1) ⊎ (result.status ≡ 2) ⊎ (result.status ≡ 5) ⊎ (result.status ≡ 6)) }
+
+    ensures complete { is_script (map (λ w. string_bytes w) words.now) ≡ true
+        → IsFaultless (V.files volume) (S.left source.old) (V.faults volume) (V.faults result.volume) (S.faults source.old) (S.faults source.new) (K.faults sink.old) (K.faults sink.new)
+        → (result.status ≡ 0) ⊎ (result.status ≡ 2) }
 
     ensures source_fault { result.status ≡ 3 → Rose (S.faults source.old) (S.faults source.new) }
     ensures sink_fault { result.status ≡ 4 → Rose (K.faults sink.old) (K.faults sink.new) }
@@ -164,6 +196,7 @@ pub fn orient<V: Volume + Send, S: Source, K: Sink, G: Gate + Sync>(
     ensures source_later { S.faults source.old ≤ S.faults source.new }
     ensures sink_later { K.faults sink.old ≤ K.faults sink.new }
     ensures volume_later { V.faults volume ≤ V.faults result.volume }
+    ensures log_later { V.log_faults volume ≤ V.log_faults result.volume }
 {
     orient_alone(alloc, words, volume, source, sink)
 }

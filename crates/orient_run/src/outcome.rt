@@ -1,5 +1,6 @@
 // What a run leaves.
-use crate::model::EntryList;
+use crate::model::{Entry, EntryList, PlacedList};
+use ori_bytes::NumberList;
 use ori_volume::Volume;
 
 /// What a run made of the database.
@@ -9,6 +10,12 @@ pub struct Report {
     pub was_empty: bool,
     /// The entries of this run, in order.
     pub history: EntryList,
+    /// The entry whose write to the log failed, so that it may have been made or not.
+    pub doubt: Option<Entry>,
+    /// The doubtful entries that an opening of this run has decided. There are none so far.
+    pub failed: PlacedList,
+    /// For each entry the volume's moment when it was acknowledged.
+    pub marks: NumberList,
 }
 
 /// The status of a run, the volume, and the report.

@@ -33,6 +33,12 @@ pub enum Refusal {
     Unbuilt,
     /// The cluster has given all its positions.
     ClusterFull { cluster: i16 },
+    /// The log needs more bytes for the commit than it has room for. Nothing has changed.
+    LogFull { need: u64, room: u64 },
+    /// The log failed before, when so many calls of the volume had failed. Nothing has changed.
+    Halted { at_fault: u64 },
+    /// The write to the log failed. The commit may have been made or not, which the next opening decides.
+    Fault,
     /// Memory was wanting; nothing has changed.
     NoMemory,
 }
@@ -157,6 +163,9 @@ fn refusal_string(alloc: Global, refusal: &Refusal) -> Result<String, NoMemory>
     match refusal {
         Refusal::Unbuilt => Ok(String::from_str(alloc, "Unbuilt")?),
         Refusal::ClusterFull { cluster } => Ok(format!(in alloc; "ClusterFull {cluster}")?),
+        Refusal::LogFull { need, room } => Ok(format!(in alloc; "LogFull {need} {room}")?),
+        Refusal::Halted { at_fault } => Ok(format!(in alloc; "Halted {at_fault}")?),
+        Refusal::Fault => Ok(String::from_str(alloc, "Fault")?),
         Refusal::NoMemory => Ok(String::from_str(alloc, "NoMemory")?),
     }
 }

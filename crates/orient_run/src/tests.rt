@@ -11,15 +11,15 @@ use std::process::Abort;
 use std::test::Fail;
 use std::{env, fs, process};
 
-// What a run came to: its status, what it printed, whether it found the volume empty, and how many entries it made.
+// What a run came to.
 #[derive(Debug, Drop)]
 struct RunResult {
     status: u8,
     printed: Blob,
     was_empty: bool,
-    entries: usize,
-    // How many calls were made on the volume.
-    volume_calls: u64,
+    entries: u64,
+    marks: usize,
+    in_doubt: bool,
     // Whether the source has bytes left.
     is_left: bool,
 }
@@ -32,7 +32,7 @@ fn run(
     input: &[u8],
     fail_source: &[u64],
     fail_sink: &[u64],
-) -> Result<RunResult, NoMemory> {
+) -> Result<(RunResult, MemVolume), NoMemory> {
     let mut all = Vec::new(alloc);
     for word in words {
         all.push(String::from_str(alloc, word)?)?;
@@ -54,22 +54,34 @@ fn run(
         &mut sink,
         &NoGate,
     );
-    Ok(RunResult {
+    let result = RunResult {
         status,
         printed: sink.taken().copy()?,
         was_empty: report.was_empty,
-        entries: report.history.len(),
-        volume_calls: volume.calls(),
+        entries: report.history.len() as u64,
+        marks: report.marks.as_slice().len(),
+        in_doubt: report.doubt.is_some(),
         is_left: source.read(&mut [0]).unwrap_or(0) > 0,
-    })
+    };
+    Ok((result, volume))
+}
+
+// Runs a script over a volume.
+fn over(
+    alloc: Global,
+    volume: MemVolume,
+    input: &[u8],
+) -> Result<(RunResult, MemVolume), NoMemory> {
+    run(alloc, &["script"], volume, input, &[], &[])
 }
 
 fn numbers(alloc: Global, items: &[u64]) -> Result<NumberList, NoMemory> {
     Ok(NumberList::from_vec(Vec::from_slice(alloc, items)?))
 }
 
+// Runs a script over an empty volume.
 fn script(alloc: Global, input: &[u8]) -> Result<RunResult, NoMemory> {
-    run(alloc, &["script"], MemVolume::empty(alloc), input, &[], &[])
+    Ok(over(alloc, MemVolume::empty(alloc), input)?.0)
 }
 
 const ANN: &str =
@@ -106,33 +118,14 @@ fn scripts_print_their_replies(rt: HostRuntime) -> Result<(), Fail> {
     Ok(())
 }
 
-#[test]
-fn a_record_is_found_again(rt: HostRuntime) -> Result<(), Fail> {
-    let alloc = rt.alloc();
-    let came = script(
-        alloc,
-        b"1 INSERT INTO V SET name = 'Ann'\n2 INSERT INTO V SET b = 'a\tb'\n2 SELECT FROM #1:1\n1 SELECT FROM #1:0\n",
-    )?;
-    let second =
-        "2 ROW {\"@class\":\"V\",\"@rid\":\"#1:1\",\"@version\":1,\"b\":\"a\\tb\"}\n2 OK 1\n";
-    let want = format!(in alloc; "{ANN}{second}{second}{ANN}")?;
-    assert_eq!(rt; came.printed.as_slice(), want.as_bytes());
-    assert_eq!(rt; came.status, 0);
-    assert_eq!(rt; came.entries, 2);
-    let malformed = script(alloc, b"1 INSERT INTO V SET a = '\xff'\n")?;
-    assert_eq!(rt; malformed.status, 8);
-    Ok(())
-}
-
 const INSERT: &[u8] = b"1 INSERT INTO V SET name = 'Ann'\n";
 
 // Shows that other words than a command's do nothing.
 fn refuse(rt: &impl Abort, alloc: Global, words: &[&str]) -> Result<(), NoMemory> {
-    let came = run(alloc, words, MemVolume::empty(alloc), INSERT, &[], &[])?;
+    let (came, volume) = run(alloc, words, MemVolume::empty(alloc), INSERT, &[], &[])?;
     assert_eq!(rt; came.status, 1);
     assert_eq!(rt; came.printed.len(), 0);
-    assert!(rt; !came.was_empty);
-    assert_eq!(rt; came.volume_calls, 0);
+    assert_eq!(rt; volume.calls(), 0);
     assert!(rt; came.is_left);
     Ok(())
 }
@@ -147,48 +140,23 @@ fn other_words_do_nothing(rt: HostRuntime) -> Result<(), Fail> {
     Ok(())
 }
 
-#[test]
-fn faults_end_a_run(rt: HostRuntime) -> Result<(), Fail> {
-    let alloc = rt.alloc();
-    let unread = run(
-        alloc,
-        &["script"],
-        MemVolume::empty(alloc),
-        INSERT,
-        &[0],
-        &[],
-    )?;
-    assert_eq!(rt; unread.status, 3);
-    let unwritten = run(
-        alloc,
-        &["script"],
-        MemVolume::empty(alloc),
-        INSERT,
-        &[],
-        &[0],
-    )?;
-    assert_eq!(rt; unwritten.status, 4);
-    assert_eq!(rt; unwritten.entries, 1);
-    Ok(())
+// The status where these calls of the source and the sink fail, the number of entries, and whether input is left.
+fn failing(
+    alloc: Global,
+    input: &[u8],
+    source: &[u64],
+    sink: &[u64],
+) -> Result<(u8, u64, bool), NoMemory> {
+    let volume = MemVolume::empty(alloc);
+    let (came, _) = run(alloc, &["script"], volume, input, source, sink)?;
+    Ok((came.status, came.entries, came.is_left))
 }
 
 #[test]
-fn a_volume_that_fails_or_holds_something_is_not_opened(rt: HostRuntime) -> Result<(), Fail> {
+fn faults_end_a_run(rt: HostRuntime) -> Result<(), Fail> {
     let alloc = rt.alloc();
-    let mut failing = MemVolume::empty(alloc);
-    failing.fail(numbers(alloc, &[0])?);
-    let unopened = run(alloc, &["script"], failing, INSERT, &[], &[])?;
-    assert_eq!(rt; unopened.status, 5);
-    let other = MemVolume::of_image(Image {
-        master: Blob::from_slice(alloc, &[0, 0])?,
-        log_a: Blob::new(alloc),
-        log_b: Blob::new(alloc),
-        pages: Blob::new(alloc),
-    });
-    let foreign = run(alloc, &["script"], other, INSERT, &[], &[])?;
-    assert_eq!(rt; foreign.status, 6);
-    assert_eq!(rt; foreign.entries, 0);
-    assert_eq!(rt; foreign.volume_calls, 4);
+    assert_eq!(rt; failing(alloc, INSERT, &[0], &[])?, (3, 0, true));
+    assert_eq!(rt; failing(alloc, INSERT, &[], &[0])?, (4, 1, false));
     Ok(())
 }
 
@@ -197,33 +165,136 @@ fn a_line_is_answered_before_all_is_read(rt: HostRuntime) -> Result<(), Fail> {
     let alloc = rt.alloc();
     let mut input = Vec::new(alloc);
     for _ in 0..1000 {
-        input.extend_from_slice(b"1 INSERT INTO V SET a = 'b'\n")?;
+        input.extend_from_slice(INSERT)?;
     }
-    let came = run(
-        alloc,
-        &["script"],
-        MemVolume::empty(alloc),
-        input.as_slice(),
-        &[],
-        &[0],
-    )?;
-    assert_eq!(rt; came.status, 4);
-    assert_eq!(rt; came.entries, 1);
-    assert!(rt; came.is_left);
-    assert_eq!(rt; came.volume_calls, 4);
+    assert_eq!(rt; failing(alloc, input.as_slice(), &[], &[0])?, (4, 1, true));
     Ok(())
 }
 
 #[test]
-fn one_thread_is_enough_for_a_script(rt: HostRuntime) -> Result<(), Fail> {
+fn a_volume_that_fails_or_holds_something_is_not_opened(rt: HostRuntime) -> Result<(), Fail> {
     let alloc = rt.alloc();
-    let words = vec![in alloc; String::from_str(alloc, "script")?]?;
-    let mut source = MemSource::of(Blob::from_slice(alloc, b"1 BEGIN\n")?, numbers(alloc, &[])?);
-    let mut sink = MemSink::empty(alloc, numbers(alloc, &[])?);
-    let volume = MemVolume::empty(alloc);
-    let outcome = orient_alone(alloc, words.as_slice(), volume, &mut source, &mut sink);
-    assert_eq!(rt; outcome.status, 0);
-    assert_eq!(rt; sink.taken().as_slice(), b"1 ERR Unbuilt\n".as_slice());
+    let mut failing = MemVolume::empty(alloc);
+    failing.fail(numbers(alloc, &[0])?);
+    assert_eq!(rt; over(alloc, failing, INSERT)?.0.status, 5);
+    let other = MemVolume::of_image(Image {
+        master: Blob::from_slice(alloc, &[0, 0])?,
+        log_a: Blob::new(alloc),
+        log_b: Blob::new(alloc),
+        pages: Blob::new(alloc),
+    });
+    assert_eq!(rt; over(alloc, other, INSERT)?.0.status, 6);
+    Ok(())
+}
+
+// The device calls of an opening of an empty volume, and of one INSERT: the record, its sync, the gate, its sync.
+const OPENING_CALLS: u64 = 15;
+
+const INSERT_CALLS: u64 = 4;
+
+#[test]
+fn a_failed_log_halts_the_run(rt: HostRuntime) -> Result<(), Fail> {
+    let alloc = rt.alloc();
+    let mut volume = MemVolume::empty(alloc);
+    volume.fail(numbers(alloc, &[OPENING_CALLS + 1])?);
+    let input = b"1 INSERT INTO V SET a = 'b'\n1 INSERT INTO V SET a = 'b'\n1 SELECT FROM #1:0\n";
+    let (came, _) = over(alloc, volume, input)?;
+    assert_eq!(rt;
+        came.printed.as_slice(),
+        b"1 ERR Fault\n1 ERR Halted 1\n1 OK 0\n".as_slice()
+    );
+    assert_eq!(rt; (came.status, came.entries, came.marks), (0, 0, 0));
+    assert!(rt; came.in_doubt);
+    Ok(())
+}
+
+// An INSERT of a record in which this stands, its row and its count, and what a SELECT says where there is none.
+fn line_of(alloc: Global, i: u64) -> Result<String, NoMemory> {
+    Ok(format!(in alloc; "1 INSERT INTO V SET a = '{i}'\n")?)
+}
+
+fn row_of(alloc: Global, i: u64) -> Result<String, NoMemory> {
+    Ok(format!(in alloc;
+        "1 ROW {{\"@class\":\"V\",\"@rid\":\"#1:{i}\",\"@version\":1,\"a\":\"{i}\"}}\n1 OK 1\n"
+    )?)
+}
+
+// So many INSERTs over an empty volume of which a call fails behind so many.
+fn inserts(alloc: Global, count: u64, calls: u64) -> Result<(RunResult, MemVolume), NoMemory> {
+    let mut input = String::new(alloc);
+    for i in 0..count {
+        input.push_str(line_of(alloc, i)?.as_str())?;
+    }
+    let mut volume = MemVolume::empty(alloc);
+    volume.stop_after(calls);
+    over(alloc, volume, input.as_str().as_bytes())
+}
+
+// Whether an image opens to the first of so many records.
+fn has(alloc: Global, image: Image, found: u64, count: u64) -> Result<bool, NoMemory> {
+    let mut input = String::new(alloc);
+    let mut want = String::new(alloc);
+    for i in 0..count {
+        input.push_str(format!(in alloc; "1 SELECT FROM #1:{i}\n")?.as_str())?;
+        if i < found {
+            want.push_str(row_of(alloc, i)?.as_str())?;
+        } else {
+            want.push_str("1 OK 0\n")?;
+        }
+    }
+    let (came, _) = over(alloc, MemVolume::of_image(image), input.as_str().as_bytes())?;
+    Ok(came.status == 0 && came.printed.as_slice() == want.as_str().as_bytes())
+}
+
+// What a crash leaves with the gate before a record open.
+fn with_open_gate(alloc: Global, volume: &MemVolume, at: u64) -> Result<Option<Image>, NoMemory> {
+    let image = volume.crash(1)?;
+    if !volume.is_loose(FileNo::LogA, at) || image.log_a.len() as u64 <= at {
+        return Ok(None);
+    }
+    Ok(Some(volume.crash_with(1, FileNo::LogA, at, 0xa5)?))
+}
+
+#[test]
+fn a_gate_that_may_be_open_decides(rt: HostRuntime) -> Result<(), Fail> {
+    let alloc = rt.alloc();
+    // The fifth INSERT has opened its gate and not synced it.
+    let (came, volume) = inserts(alloc, 5, OPENING_CALLS + 4 * INSERT_CALLS + 3)?;
+    assert_eq!(rt; (came.entries, came.marks), (4, 4));
+    assert!(rt; has(alloc, volume.crash(1)?, 4, 5)?);
+    let open = with_open_gate(alloc, &volume, 4 * 8209)?.ok_or("the gate is loose")?;
+    assert!(rt; has(alloc, open, 5, 5)?);
+    Ok(())
+}
+
+// Whether each image that three INSERTs leave where so many calls succeed has what was acknowledged, or one more in doubt.
+fn leaves_a_prefix(alloc: Global, calls: u64, pick: u64) -> Result<bool, NoMemory> {
+    let (came, volume) = inserts(alloc, 3, calls)?;
+    if has(alloc, volume.crash(pick)?, came.entries, 3)? {
+        return Ok(true);
+    }
+    Ok(
+        came.in_doubt
+            && has(
+                alloc,
+                volume.crash(pick)?,
+                came.entries.saturating_add(1),
+                3,
+            )?,
+    )
+}
+
+#[test]
+fn a_crash_at_any_call_leaves_a_prefix(rt: HostRuntime) -> Result<(), Fail> {
+    let alloc = rt.alloc();
+    for calls in 0..OPENING_CALLS + 3 * INSERT_CALLS {
+        for pick in 0..4 {
+            assert!(rt;
+                leaves_a_prefix(alloc, calls, pick)?,
+                "after {calls} calls, image {pick}"
+            );
+        }
+    }
     Ok(())
 }
 
@@ -256,6 +327,29 @@ fn real_files_keep_what_was_written(rt: HostRuntime) -> Result<(), Fail> {
     let mut read = [9u8; 8];
     assert!(rt; again.read_at(FileNo::LogA, 0, &mut read).is_ok());
     assert_eq!(rt; read, *b"\0\0\0abc\0\0");
+    fs::remove_dir_all(&rt, path.as_str())?;
+    Ok(())
+}
+
+// Runs a script over the files of a folder, and what it printed.
+fn run_in(rt: &HostRuntime, path: &str, input: &[u8]) -> Result<Blob, Fail> {
+    let alloc = rt.alloc();
+    let words = vec![in alloc; String::from_str(alloc, "script")?]?;
+    let mut source = MemSource::of(Blob::from_slice(alloc, input)?, numbers(alloc, &[])?);
+    let mut sink = MemSink::empty(alloc, numbers(alloc, &[])?);
+    let volume = FileVolume::open(rt, path)?;
+    let outcome = orient_alone(alloc, words.as_slice(), volume, &mut source, &mut sink);
+    drop(outcome);
+    Ok(sink.taken().copy()?)
+}
+
+#[test]
+fn a_second_run_finds_what_the_first_has_made(rt: HostRuntime) -> Result<(), Fail> {
+    let path = folder(&rt, "runs")?;
+    let first = run_in(&rt, path.as_str(), INSERT)?;
+    assert_eq!(rt; first.as_slice(), ANN.as_bytes());
+    let second = run_in(&rt, path.as_str(), b"1 SELECT FROM #1:0\n")?;
+    assert_eq!(rt; second.as_slice(), ANN.as_bytes());
     fs::remove_dir_all(&rt, path.as_str())?;
     Ok(())
 }

@@ -6,29 +6,26 @@ use Rattle.orient_run.specs.Replies.{answer_of}
 use Rattle.orient_run.proofs.run.answer.Goals as goal
 
 pub returns-in_default-clause-answered : goal.returns-in_default-clause-answered
-returns-in_default-clause-answered g c = λ run keeps.
-    let s = c.answer-answer.ensures run keeps in
-    record {
-      next = s.next;
-      answer = answer_of c.answer-answer.result;
-      stepped = s.stepped;
-      keeps = s.keeps;
-      output = [];
-      unprinted = answer_text (answer_of c.answer-answer.result);
-      text = refl;
-      gave = gave_nothing _;
-      printed = inl refl;
-    }
+returns-in_default-clause-answered g c = record {
+  answer = answer_of c.answer-answer.result;
+  stepped = c.answer-answer.ensures.stepped;
+  fault_told = c.answer-answer.ensures.fault_told;
+  halted_stays = c.answer-answer.ensures.halts.stays;
+  output = [];
+  unprinted = answer_text (answer_of c.answer-answer.result);
+  text = refl;
+  gave = gave_nothing _;
+  printed = inl refl;
+}
 
 pub returns-in-Ok-print-clause-answered : goal.returns-in-Ok-print-clause-answered
-returns-in-Ok-print-clause-answered g c = λ run keeps.
-    let s = c.answer-answer.ensures run keeps in
+returns-in-Ok-print-clause-answered g c =
     let text : answer_text (answer_of c.answer-answer.result) ≡ c.as_str.result.now = sym (c.as_str.ensures.value ∙ c.in-Ok.ensures) in
     record {
-      next = s.next;
       answer = answer_of c.answer-answer.result;
-      stepped = s.stepped;
-      keeps = s.keeps;
+      stepped = c.answer-answer.ensures.stepped;
+      fault_told = c.answer-answer.ensures.fault_told;
+      halted_stays = c.answer-answer.ensures.halts.stays;
       output = c.as_str.result.now;
       unprinted = [];
       text = text ∙ sym (append-nil c.as_str.result.now);
@@ -37,15 +34,14 @@ returns-in-Ok-print-clause-answered g c = λ run keeps.
     }
 
 pub returns-clause-answered : goal.returns-clause-answered
-returns-clause-answered g c = λ run keeps.
-    let s = c.answer-answer.ensures run keeps in
+returns-clause-answered g c =
     let text : answer_text (answer_of c.answer-answer.result) ≡ c.as_str.result.now = sym (c.as_str.ensures.value ∙ c.in-Ok.ensures) in
     let p = c.in-Err.ensures.err in
     record {
-      next = s.next;
       answer = answer_of c.answer-answer.result;
-      stepped = s.stepped;
-      keeps = s.keeps;
+      stepped = c.answer-answer.ensures.stepped;
+      fault_told = c.answer-answer.ensures.fault_told;
+      halted_stays = c.answer-answer.ensures.halts.stays;
       output = p.part;
       unprinted = p.left;
       text = text ∙ p.parts;

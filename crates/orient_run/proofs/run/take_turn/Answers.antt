@@ -5,15 +5,15 @@ pub answer-requires : goal.answer-requires
 answer-requires g c = let next = rw c.in-Ok-Some.field-0-is at c.in-Ok-Some.ensures.next in let m = next.moves in short_line _ m.lines _ m.advances.reads
 
 pub returns-in-Ok-Some-clause-turned : goal.returns-in-Ok-Some-clause-turned
-returns-in-Ok-Some-clause-turned g c = λ l0 t0 so_far.
+returns-in-Ok-Some-clause-turned g c = λ files l0 t0 so_far.
     let next = rw c.in-Ok-Some.field-0-is at c.in-Ok-Some.ensures.next in
-    after_line l0 _ _ t0 _ _ _ _ _ _ c.in-Ok-Some.line _ _ c.answer.result so_far next (c.answer.ensures.answered so_far.now so_far.keeps)
+    after_line files l0 _ _ t0 _ _ _ _ _ c.in-Ok-Some.line _ c.answer.result so_far next c.answer.ensures.answered
 
 pub returns-in-Ok-None-clause-turned : goal.returns-in-Ok-None-clause-turned
-returns-in-Ok-None-clause-turned g c = λ l0 t0 so_far.
+returns-in-Ok-None-clause-turned g c = λ files l0 t0 so_far.
     let next = rw c.in-Ok-None.field-0-is at c.in-Ok-None.ensures.next in
-    input_ended l0 _ _ t0 _ _ _ _ _ so_far next
+    input_ended files l0 _ _ t0 _ _ _ _ so_far next
 
 pub returns-in-Err-clause-turned : goal.returns-in-Err-clause-turned
-returns-in-Err-clause-turned g c = λ l0 t0 so_far.
-    rw c.status_of.ensures (line_failed l0 _ _ t0 _ _ _ _ _ _ _ c.in-Err.fault so_far c.in-Err.ensures.next)
+returns-in-Err-clause-turned g c = λ files l0 t0 so_far.
+    rw c.status_of.ensures (line_failed files l0 _ _ t0 _ _ _ _ _ _ c.in-Err.fault so_far c.in-Err.ensures.next)

@@ -2,11 +2,12 @@ use Rattle.std.proofs.Common.{refl, ap, inl, inr}
 use Rattle.ori_spec.specs.Statement.{answered, pending, insert_tx, rows_at}
 use Rattle.ori_spec.specs.Reply.{to_session}
 use Rattle.orient_run.specs.Replies.{reply_of}
+use Rattle.orient_run.proofs.Told.{tells_same}
 use Rattle.orient_run.proofs.database.Database.execute.Goals as goal
 
-pub returns-in-Insert : goal.returns-in-Insert
-returns-in-Insert c = λ run keeps.
-    let done = c.insert.ensures run keeps in
+pub returns-in-Insert-clause-stepped : goal.returns-in-Insert-clause-stepped
+returns-in-Insert-clause-stepped g c = λ run keeps.
+    let done = c.insert.ensures.inserted run keeps in
     record {
       next = done.next;
       stepped = elim done.decided [
@@ -16,12 +17,15 @@ returns-in-Insert c = λ run keeps.
       keeps = done.keeps;
     }
 
-pub returns-in-Select : goal.returns-in-Select
-returns-in-Select c = λ run keeps. record {
+pub returns-in-Select-clause-stepped : goal.returns-in-Select-clause-stepped
+returns-in-Select-clause-stepped g c = λ run keeps. record {
   next = run;
-  stepped = elim (c.select.ensures run keeps) [
+  stepped = elim (c.select.ensures.selected run.base keeps.sound keeps.stands) [
     | inl found ↦ inl (answered (rows_at run.base c.in-Select.rid), reply_of c.select.result, (c.in-Select.rid, c.in-Select.ensures.is, refl), (found, refl), refl)
     | inr wanting ↦ inr (ap (to_session c.args.session) wanting, refl)
   ];
   keeps = keeps;
 }
+
+pub returns-in-Select-clause-crash : goal.returns-in-Select-clause-crash
+returns-in-Select-clause-crash g c = tells_same _ _ _ (λ story base first safe. safe) refl

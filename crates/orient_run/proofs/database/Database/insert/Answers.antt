@@ -1,36 +1,71 @@
-use Rattle.std.proofs.Common.{◌≡◌, ℕ, List, [], ◌∷◌, ◌++◌, Option, Ok, refl, sym, ap, ◌∙◌, subst, inl, map, length}
-use Rattle.std.proofs.lemmas.List.{append-nil}
-use Rattle.ori_bytes.specs.declared.rid.Rid.{Rid}
-use Rattle.ori_spec.specs.Value.{Fields}
-use Rattle.ori_spec.specs.Base.{commit}
-use Rattle.ori_spec.specs.Apply.{fresh, rid_at, next_of, apply_tx}
-use Rattle.ori_spec.specs.Statement.{insert_tx, rows_at}
+use Rattle.std.proofs.Common.{◌≡◌, ◌++◌, ◌∷◌, [], ap, ◌∙◌, sym, subst, subst₂, arith, map, Ok, refl, option_map, length, is_ok, ◌<◌, ◌≤◌, ℕ, List, Option, Err}
+use Rattle.ori_volume.specs.Story.{Tells}
 use Rattle.ori_spec.specs.Stage.{StandFor}
 use Rattle.ori_spec.specs.Reply.{granted}
-use Rattle.ori_spec.specs.Run.{RunData, Decides, rows_of_new}
+use Rattle.orient_run.specs.declared.database.Database.{Database}
+use Rattle.orient_run.specs.declared.engine.Engine.{Engine}
+use Rattle.orient_run.specs.declared.model.Entry.{Entry}
 use Rattle.orient_run.specs.declared.reply.Row.{Row}
+use Rattle.orient_run.specs.Records.{entry_of, entries_of}
 use Rattle.orient_run.specs.Replies.{reply_of, row_of}
-use Rattle.orient_run.proofs.Inserts.{fresh-insert_tx, inserted_row}
+use Rattle.orient_run.specs.Database.{KeptData, StaysSafe, IsInserted, doubt_by}
+use Rattle.orient_run.proofs.Decided.{kept_as, doubt_by-map, keeps_prepared, inserted_made, inserted_refused}
+use Rattle.orient_run.proofs.Kept.{pushed, entries-push, made_stays, refused_stays}
 use Rattle.orient_run.proofs.database.Database.insert.Goals as goal
 
-pub returns-in-Ok-insert : goal.returns-in-Ok-insert
-returns-in-Ok-insert c = λ run keeps.
-    let name = c.args.name.now in
-    let value = c.args.value.now in
-    let tx = insert_tx name value in
-    let rid = rid_at 1 (next_of run.base.next 1) in
-    let prepared = c.in-Ok.ensures.ok run keeps in
-    let stands : StandFor c.prepare.new.self.engine run.base = subst (λ (pages : List (List ℕ)). StandFor pages run.base) (sym c.prepare.ensures.engine) keeps.stands in
-    let done = c.in-Ok-insert.ensures.ok run.base keeps.sound stands in
-    let fresh_is : fresh run.base tx ≡ rid ∷ [] = fresh-insert_tx run.base name value keeps.stands.schema in
-    let row : rows_of_new (apply_tx run.base tx) (rid ∷ []) ≡ map row_of c.in-Ok.rows.items =
-    append-nil (rows_at (apply_tx run.base tx) rid) ∙ inserted_row run.base c.args.self.now.engine name value keeps.sound keeps.stands ∙ sym prepared.row in
-    let reply : reply_of record { rows = c.from_vec.result; told = Ok 1 } ≡ granted (rows_of_new (apply_tx run.base tx) (fresh run.base tx)) (length (fresh run.base tx)) =
-    ap (λ (rows : List Row). granted (map row_of rows) 1) c.from_vec.ensures ∙ sym (ap (λ (rows : List Fields). granted rows 1) row)
-    ∙ ap (λ (rids : List Rid). granted (rows_of_new (apply_tx run.base tx) rids) (length rids)) (sym fresh_is) in
-    let next : RunData = record { base = apply_tx run.base tx; history = run.history ++ commit c.args.session tx (fresh run.base tx) ∷ [] } in
-    record {
-      next = next;
-      decided = inl (subst (λ (full : Option ℕ). Decides run c.args.session tx full (reply_of record { rows = c.from_vec.result; told = Ok 1 }) next) (sym done.0) (reply, refl));
-      keeps = record { sound = done.2; stands = done.3; history = prepared.entry ∙ ap (λ (rids : List Rid). run.history ++ commit c.args.session tx rids ∷ []) (sym fresh_is) };
-    }
+pub returns-in-Ok-insert-clause-inserted : goal.returns-in-Ok-insert-clause-inserted
+returns-in-Ok-insert-clause-inserted g c = λ run keeps.
+    let before = keeps_prepared _ _ _ _ _ run c.prepare.ensures.engine (ap (λ o. option_map entry_of o) c.prepare.ensures.doubt) keeps in
+    inserted_made run c.args.session c.args.name.now c.args.value.now c.prepare.new.self.engine c.insert.new.self (entries_of c.args.self.now.history) (entries_of c.prepare.new.self.history) _
+    (map row_of c.in-Ok.rows.items) _ before (c.in-Ok.ensures.ok run.base keeps.sound keeps.stands) (c.in-Ok-insert.ensures.decided run.base before.sound before.stands)
+    (ap (λ rows. granted (map row_of rows) 1) c.from_vec.ensures)
+
+pub returns-in-Ok-insert-clause-crash : goal.returns-in-Ok-insert-clause-crash
+returns-in-Ok-insert-clause-crash g c =
+    let e : Database = record { engine = c.insert.new.self; history = c.prepare.new.self.history; marks = c.push.new.self; doubt = c.prepare.new.self.doubt } in
+    let d : Database = record { engine = c.prepare.new.self.engine; history = c.args.self.now.history; marks = c.args.self.now.marks; doubt = c.args.self.now.doubt } in
+    let one = c.in-Ok.ensures.history in
+    let marks : e.marks.items ≡ d.marks.items ++ g.V.Volume.moment c.insert.new.volume ∷ [] =
+    pushed c.push.result _ _ _ c.push.ensures.items (c.push.ensures.succeeds c.in-Ok.ensures.place) ∙ ap (λ l. l ++ c.moment.result ∷ []) c.prepare.ensures.marks
+    ∙ ap (λ m. d.marks.items ++ m ∷ []) c.moment.ensures in
+    let P : Engine → Type 0 =
+    λ engine. Tells (StaysSafe (record { engine = engine; history = c.args.self.now.history; marks = c.args.self.now.marks; doubt = c.args.self.now.doubt }) e)
+    (g.V.Volume.story c.args.volume.now) (g.V.Volume.story c.insert.new.volume) in
+    subst P c.prepare.ensures.engine (
+    made_stays d e c.args.session c.args.name.now c.args.value.now c.prepare.new.self.history one.0 (map row_of c.in-Ok.rows.items) one.1
+    (λ base sound stands. c.in-Ok.ensures.ok base sound (subst (λ (engine : Engine). StandFor engine.table.pages.items base) c.prepare.ensures.engine stands))
+    c.in-Ok-insert.ensures.decided refl c.prepare.ensures.doubt c.in-Ok-insert.ensures.halted.0 g.V.Volume.story g.V.Volume.moment c.args.volume.now c.insert.new.volume
+    g.met.V.Volume.counts_past c.in-Ok-insert.ensures.crash marks
+    )
+
+pub returns-in-Err-clause-inserted : goal.returns-in-Err-clause-inserted
+returns-in-Err-clause-inserted g c = λ run keeps.
+    let one = c.in-Ok.ensures.history in
+    let back = c.take_back.ensures.entry c.args.self.now.history one.0 one.1 in
+    let doubt_is : option_map entry_of c.take_back.new.self.doubt ≡ doubt_by c.in-Err.fault (option_map entry_of c.prepare.new.self.doubt) (entry_of one.0) =
+    ap (λ o. option_map entry_of o) back.1 ∙ doubt_by-map c.in-Err.fault c.prepare.new.self.doubt one.0 in
+    let before = keeps_prepared _ _ _ _ _ run c.prepare.ensures.engine (ap (λ o. option_map entry_of o) c.prepare.ensures.doubt) keeps in
+    let done =
+    inserted_refused run c.args.session c.args.name.now c.args.value.now c.prepare.new.self.engine c.insert.new.self (entries_of c.args.self.now.history) (entries_of c.prepare.new.self.history) _
+    (map row_of c.in-Ok.rows.items) (reply_of c.take_back.result) before (c.in-Ok.ensures.ok run.base keeps.sound keeps.stands) c.in-Err.fault (entry_of one.0) _ _ _
+    (c.in-Err.ensures.decided run.base before.sound before.stands) c.in-Err.ensures.refused c.in-Err.ensures.halted
+    (ap entries_of one.1 ∙ entries-push c.args.self.now.history one.0) c.take_back.ensures.reply in
+    subst (λ (k : KeptData). IsInserted run c.args.session c.args.name.now c.args.value.now (reply_of c.take_back.result) k)
+    (sym (kept_as c.take_back.new.self c.insert.new.self c.args.self.now.history _ c.take_back.ensures.engine back.0 doubt_is)) done
+
+pub returns-in-Err-clause-crash : goal.returns-in-Err-clause-crash
+returns-in-Err-clause-crash g c =
+    let one = c.in-Ok.ensures.history in
+    let back = c.take_back.ensures.entry c.args.self.now.history one.0 one.1 in
+    let e : Database = record { engine = c.insert.new.self; history = c.take_back.new.self.history; marks = c.take_back.new.self.marks; doubt = c.take_back.new.self.doubt } in
+    let d : Database = record { engine = c.prepare.new.self.engine; history = c.args.self.now.history; marks = c.args.self.now.marks; doubt = c.args.self.now.doubt } in
+    let P : Engine → Engine → Type 0 =
+    λ old new. Tells (StaysSafe (record { engine = old; history = c.args.self.now.history; marks = c.args.self.now.marks; doubt = c.args.self.now.doubt })
+    (record { engine = new; history = c.take_back.new.self.history; marks = c.take_back.new.self.marks; doubt = c.take_back.new.self.doubt }))
+    (g.V.Volume.story c.args.volume.now) (g.V.Volume.story c.insert.new.volume) in
+    subst₂ P c.prepare.ensures.engine (sym c.take_back.ensures.engine) (
+    refused_stays d e c.args.session c.args.name.now c.args.value.now c.prepare.new.self.history one.0 (map row_of c.in-Ok.rows.items) one.1
+    (λ base sound stands. c.in-Ok.ensures.ok base sound (subst (λ (engine : Engine). StandFor engine.table.pages.items base) c.prepare.ensures.engine stands))
+    back.0 (c.take_back.ensures.marks ∙ c.prepare.ensures.marks) g.V.Volume.story c.args.volume.now c.insert.new.volume c.in-Err.fault (g.V.Volume.faults c.insert.new.volume)
+    (back.1 ∙ ap (λ o. doubt_by c.in-Err.fault o one.0) c.prepare.ensures.doubt) c.in-Err.ensures.refused c.in-Err.ensures.halted c.in-Err.ensures.crash
+    )

@@ -1,30 +1,91 @@
-use Rattle.std.proofs.Common.{◌≡◌, ◌+◌, ◌≤◌, ℕ, set, List, ◌∷◌, [], ◌++◌, length, get_or, sym, ap, ◌∙◌, subst, arith, rules}
-use Rattle.ori_bytes.specs.declared.rid.Rid.{Rid}
-use Rattle.ori_spec.specs.Apply.{rid_at, apply_tx}
+use Rattle.std.proofs.Common.{◌≡◌, ◌≤◌, ◌<◌, ℕ, List, length, None, Ok, Err, sym, ◌∙◌, ap, ap₂, subst, arith}
+use Rattle.std.specs.List.{AllByRecursion}
+use Rattle.ori_spec.specs.Apply.{apply_tx}
+use Rattle.ori_spec.specs.Log.{ImageData}
 use Rattle.ori_spec.specs.Statement.{insert_tx}
-use Rattle.ori_spec.specs.Stage.{StandFor, head_page, record_page}
-use Rattle.orient_run.proofs.Growth.{inserted, with_page}
-use Rattle.orient_run.proofs.Names.{field_name}
+use Rattle.ori_spec.specs.Stage.{StandFor}
+use Rattle.ori_log.specs.Appending.{need_of, room_of, Joins}
+use Rattle.ori_log.specs.Images.{IsWhole}
+use Rattle.ori_log.specs.declared.fault.LogFault.{LogFault}
+use Rattle.ori_log.proofs.Stages.{tells_map}
+use Rattle.orient_run.specs.declared.engine.InsertFault.{InsertFault}
+use Rattle.orient_run.specs.declared.engine.InsertFault.TheVariants.{Fault}
+use Rattle.orient_run.specs.declared.table.NewPages.{NewPages}
+use Rattle.orient_run.specs.Engine.{InsertsSafely}
+use Rattle.orient_run.specs.Pages.{grown, insert_images}
+use Rattle.orient_run.proofs.Held.{insert_done, insert_failed, need_is, at_least, not_enough, no_value, not_full}
 use Rattle.orient_run.proofs.engine.Engine.insert.Goals as goal
 
-pub write_record-requires-clause-names : goal.write_record-requires-clause-names
-write_record-requires-clause-names c = let name = field_name c.args.name.now c.requires.name in (name.0, c.utf8.name, name.1)
+pub returns-in-LogFull-clause-decided : goal.returns-in-LogFull-clause-decided
+returns-in-LogFull-clause-decided g c = λ base sound stands.
+    let whole : AllByRecursion IsWhole c.in-Ok-images_of.images = subst (λ (l : List ImageData). AllByRecursion IsWhole l) c.images.view_is c.images.invariant in
+    let need : need_of c.in-Ok-images_of.images ≡ 8210 = need_is c.in-Ok-images_of.images c.len-page.result c.in-Ok.new c.in-Ok-images_of.ensures whole in
+    let short : room_of c.args.self.now.log < need_of c.in-Ok-images_of.images = not_enough _ _ (λ enough. let failed = c.in-Err.ensures.fits enough in absurd (cc (failed, c.in-LogFull.is))) in
+    let full = (c.in-Err.ensures.full short).0 in
+    let need_told : c.in-LogFull.need ≡ need_of c.in-Ok-images_of.images = cc (full, c.in-LogFull.is) in
+    let room_told : c.in-LogFull.room ≡ room_of c.args.self.now.log = cc (full, c.in-LogFull.is) in (
+      record { going = no_value _ c.in_default.not-Some; room = (c.in-Ok.ensures.stands base sound stands).room },
+      need_told ∙ need,
+      room_told,
+      omega (arith, need_told, room_told, short),
+    )
 
-pub returns-clause-ok : goal.returns-clause-ok
-returns-clause-ok c = λ base sound stands.
-    let pages = c.self.inside.pages.items in
-    let now : pages ≡ c.args.self.now = c.self.view_is in
-    let before : StandFor pages base = subst (λ (ps : List (List ℕ)). StandFor ps base) (sym now) stands in
-    let len : c.len-count.result ≡ length pages = search rules in
-    let room : length pages ≤ 250000 = omega (arith, len, c.if-count.false) in
-    let pushed : c.push.new.self.items ≡ pages ++ c.in_ok-page.page ∷ [] = search rules in
-    let page : c.in_ok-page.page ≡ record_page c.in_ok-spelling.spelling = c.in_ok-page.ensures ∙ ap record_page c.as_slice.ensures in
-    let head : c.in_ok-head.head ≡ head_page (length pages + 1) = c.in_ok-head.ensures ∙ ap (λ (n : ℕ). head_page (n + 1)) len in
-    let short : length c.in_ok-spelling.spelling ≤ 4086 = omega (arith, c.in_ok-spelling.ensures.short, c.requires.small) in
-    let n = get_or base.next 0 0 in
-    let whole = inserted base pages c.args.name.now c.args.value.now c.in_ok-spelling.spelling c.self.invariant room sound before (c.in_ok-spelling.ensures.spelled (rid_at 1 n)) short in
-    let new : with_page pages (record_page c.in_ok-spelling.spelling) (head_page (length pages + 1)) ≡ set c.push.new.self.items 0 c.in_ok-head.head
-    = ap (λ (p : List ℕ). with_page pages p (head_page (length pages + 1))) (sym page) ∙ ap (with_page pages c.in_ok-page.page) (sym head)
-    ∙ ap (λ (ps : List (List ℕ)). set ps 0 c.in_ok-head.head) (sym pushed) in
-    let rid : c.next_rid-rid.result ≡ rid_at 1 n = c.next_rid-rid.ensures base sound stands in
-    (whole.room, ap (λ (r : Rid). r ∷ []) rid ∙ sym whole.new, whole.sound, subst (λ (ps : List (List ℕ)). StandFor ps (apply_tx base (insert_tx c.args.name.now c.args.value.now))) new whole.stands)
+pub returns-in-Err-clause-decided : goal.returns-in-Err-clause-decided
+returns-in-Err-clause-decided g c = λ base sound stands.
+    let whole : AllByRecursion IsWhole c.in-Ok-images_of.images = subst (λ (l : List ImageData). AllByRecursion IsWhole l) c.images.view_is c.images.invariant in
+    let need : need_of c.in-Ok-images_of.images ≡ 8210 = need_is c.in-Ok-images_of.images c.len-page.result c.in-Ok.new c.in-Ok-images_of.ensures whole in
+    let failed = not_full c.in-Err.fault _ _ (λ short. (c.in-Err.ensures.full short).0) c.in-Err.ensures.fits c.in_default-fault.not-LogFull in
+    (record { going = no_value _ c.in_default.not-Some; room = (c.in-Ok.ensures.stands base sound stands).room }, omega (arith, need, failed.0))
+
+pub returns-in-Err-clause-crash : goal.returns-in-Err-clause-crash
+returns-in-Err-clause-crash g c = tells_map _ _ _ _ (λ old new told appends. λ base sound stands held.
+    let pages = c.args.self.now.table.pages.items in
+    let images : c.in-Ok-images_of.images ≡ insert_images (length pages) c.in-Ok.new = c.in-Ok-images_of.ensures ∙ ap (λ (n : ℕ). insert_images n c.in-Ok.new) c.len-page.ensures in
+    insert_failed c.args.self.now.log pages c.in-Ok.new c.args.name.now c.args.value.now base held.0 old c.args.self.now.table.counted c.in-Ok.ensures.counts sound stands
+    (c.in-Ok.ensures.stands base sound stands) held.1 c.append.new.self c.append.new.self c.make_pages.new.self.pages.items c.in-Err.fault Fault new
+    (subst (λ (l : List ImageData). Joins {T = Unit {0}} {E = LogFault} c.args.self.now.log c.append.new.self held.0 l (Err c.in-Err.fault) old new) images (appends held.0 (held.1).attached)))
+    c.in-Err.ensures.crash
+
+pub returns-in-Err-clause-faults : goal.returns-in-Err-clause-faults
+returns-in-Err-clause-faults g c =
+    let failed = not_full c.in-Err.fault _ _ (λ short. (c.in-Err.ensures.full short).0) c.in-Err.ensures.fits c.in_default-fault.not-LogFull in
+    record { later = c.in-Err.ensures.faults.later; failed = λ is. c.in-Err.ensures.faults.failed (ap Err failed.1) }
+
+pub returns-in-Err-clause-log_faults : goal.returns-in-Err-clause-log_faults
+returns-in-Err-clause-log_faults g c =
+    let failed = not_full c.in-Err.fault _ _ (λ short. (c.in-Err.ensures.full short).0) c.in-Err.ensures.fits c.in_default-fault.not-LogFull in
+    record { later = c.in-Err.ensures.log_faults.later; failed = λ is. c.in-Err.ensures.log_faults.failed (ap Err failed.1) }
+
+pub returns-in-Some-pages_back-clause-decided : goal.returns-in-Some-pages_back-clause-decided
+returns-in-Some-pages_back-clause-decided g c = λ base sound stands.
+    let pages = c.args.self.now.table.pages.items in
+    let whole : AllByRecursion IsWhole c.in-Ok-images_of.images = subst (λ (l : List ImageData). AllByRecursion IsWhole l) c.images.view_is c.images.invariant in
+    let need : need_of c.in-Ok-images_of.images ≡ 8210 = need_is c.in-Ok-images_of.images c.len-page.result c.in-Ok.new c.in-Ok-images_of.ensures whole in
+    let enough : need_of c.in-Ok-images_of.images ≤ room_of c.args.self.now.log = at_least _ _ (λ short. let full = (c.in_default-append.ensures.full short).0 in absurd (cc full)) in
+    let place = (c.in_default-append.ensures.counts).1 in
+    let back = c.pages_back.ensures c.len-page.result c.in-Ok.new c.in-Ok-images_of.ensures in
+    let same : c.in-Some-pages_back.new ≡ c.in-Ok.new = cc (back, c.in-Some-pages_back.is) in
+    let now : c.grow.new.self.pages.items ≡ grown pages c.in-Ok.new = c.grow.ensures ∙ ap₂ (λ (l : List (List ℕ)) (n : NewPages). grown l n) c.in-Ok.ensures.same same in
+    let after = c.in-Ok.ensures.stands base sound stands in
+    let going : c.args.self.now.halted ≡ None = no_value _ c.in_default.not-Some in
+    record {
+      may = record { going = going; room = after.room };
+      fits = omega (arith, need, enough);
+      sound = after.sound;
+      stands = subst (λ (l : List (List ℕ)). StandFor l (apply_tx base (insert_tx c.args.name.now c.args.value.now))) (sym now) after.stands;
+      room_is = omega (arith, need, place);
+      going = going;
+    }
+
+pub returns-in-Some-pages_back-clause-crash : goal.returns-in-Some-pages_back-clause-crash
+returns-in-Some-pages_back-clause-crash g c = tells_map _ _ _ _ (λ old new told appends. λ base sound stands held.
+    let pages = c.args.self.now.table.pages.items in
+    let back = c.pages_back.ensures c.len-page.result c.in-Ok.new c.in-Ok-images_of.ensures in
+    let same : c.in-Some-pages_back.new ≡ c.in-Ok.new = cc (back, c.in-Some-pages_back.is) in
+    let now : c.grow.new.self.pages.items ≡ grown pages c.in-Ok.new = c.grow.ensures ∙ ap₂ (λ (l : List (List ℕ)) (n : NewPages). grown l n) c.in-Ok.ensures.same same in
+    let images : c.in-Ok-images_of.images ≡ insert_images (length pages) c.in-Ok.new = c.in-Ok-images_of.ensures ∙ ap (λ (n : ℕ). insert_images n c.in-Ok.new) c.len-page.ensures in
+    subst (λ (l : List (List ℕ)). InsertsSafely {T = Unit {0}} {E = InsertFault} base (apply_tx base (insert_tx c.args.name.now c.args.value.now)) c.append.new.self l (Ok tt) old new) (sym now)
+    (insert_done c.args.self.now.log pages c.in-Ok.new c.args.name.now c.args.value.now base held.0 old c.args.self.now.table.counted c.in-Ok.ensures.counts sound stands
+    (c.in-Ok.ensures.stands base sound stands) held.1 c.append.new.self new
+    (subst (λ (l : List ImageData). Joins {T = Unit {0}} {E = LogFault} c.args.self.now.log c.append.new.self held.0 l (Ok tt) old new) images (appends held.0 (held.1).attached))))
+    c.in_default-append.ensures.crash
