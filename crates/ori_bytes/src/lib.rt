@@ -23,7 +23,7 @@ pub use lists::{NumberList, RidList};
 pub use memory::NoMemory;
 pub use rid::Rid;
 pub use text::Text;
-pub use varint::{one_form, one_spelling, put_varint};
+pub use varint::{one_form, one_spelling, put_varint, varint_len};
 
 #[cfg(test)]
 mod tests;

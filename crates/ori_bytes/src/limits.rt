@@ -54,6 +54,12 @@ pub const MAX_FEED_ENTRIES: u64 = 1 << 20;
 /// The most bytes of the feed of one opening.
 pub const MAX_FEED_BYTES: u64 = 1 << 29;
 
+/// Bytes that a change counts in the feed before those of its record.
+pub const CHANGE_FEED_BYTES: u64 = 64;
+
+/// Bytes that a schema change counts in the feed.
+pub const DEFINITION_FEED_BYTES: u64 = 256;
+
 /// The number of cache partitions. Page p is in partition p mod this.
 pub const PARTITIONS: u8 = 8;
 

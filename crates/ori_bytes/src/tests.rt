@@ -1,7 +1,7 @@
 // Values from outside: worked by hand, or vectors of the format.
 use crate::{
     Blob, ByteFault, Cursor, NoMemory, NumberList, Rid, RidList, Text, one_form, one_spelling,
-    put_varint,
+    put_varint, varint_len,
 };
 use std::test::Fail;
 
@@ -29,6 +29,7 @@ fn varints(rt: HostRuntime) -> Result<(), Fail> {
         let mut out = Blob::new(rt.alloc());
         put_varint(&mut out, *number)?;
         assert!(rt; out.as_slice() == *spelling, "the spelling of {number}");
+        assert_eq!(rt; varint_len(*number), spelling.len());
         out.push(0x80)?;
         let mut cursor = Cursor::new(out.as_slice());
         assert_eq!(rt; cursor.take_varint(), Ok(*number));

@@ -113,6 +113,15 @@ pub fn put_varint(out: &mut Blob, number: i64) -> Result<(), NoMemory>
     out.extend_from_slice(&groups[..len])
 }
 
+/// How many bytes a number's spelling takes, ten at most.
+pub fn varint_len(number: i64) -> usize
+    ensures len { result ≡ length (varint_bytes number) }
+    ensures most { result ≤ 10 }
+{
+    let mut groups = [0; MAX_GROUPS];
+    write_groups(&mut groups, to_zigzag(number))
+}
+
 /// Each number has a spelling, of ten bytes at most, and no other bytes spell it.
 pub fn one_spelling()
     ensures spelled { (z : ℤ) → FitsSigned w64 z → IsVarint (varint_bytes z) z }

@@ -31,7 +31,7 @@ formed name value e =
     let r = and_parts (not (is_keyword name)) _ q.1 in
     let s = or_parts (same_bytes name (codes "out")) _ (not-true (is_reserved name) r.1) in
     let t = or_parts (same_bytes name (codes "in")) _ s.1 in
-    record { one_each = (tt, tt); in_order = (0, omega arith, omega arith, refl, tt); own = ((word-some name p.0, t.1, omega arith, tt), tt) }
+    record { one_each = (tt, tt); in_order = (0, omega arith, omega arith, refl, tt); own = ((word-some name p.0, t.1, omega arith, refl, tt), tt) }
 
 -- the history is legal from a base on, and leads to the base that the run has
 pub record IsReplayed (base : BaseData) (run : RunData) : Type 0 where

@@ -1,5 +1,16 @@
 pub mod NoFloats
+pub mod Names
+mod Lookups
+pub mod Rids
+pub mod Staged
+pub mod Overlays
+pub mod Orders
+pub mod Proper
+pub mod Renamed
+pub mod Kept
+pub mod HistoryLaws
 mod WorkedRows
 mod Histories
 pub mod OneReading
 mod WorkedRecord
+mod WorkedChanges

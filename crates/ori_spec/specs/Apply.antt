@@ -1,5 +1,5 @@
 -- What a transaction or a schema change makes of a base, and what a history leads to.
-use Rattle.std.specs.Prelude.{◌≡◌, ℕ, suc, ◌+◌, ◌-◌, ◌<◌, ◌≤◌, pos, negsuc, Bool, false, ◌&&◌, ◌||◌, nat_lt, nat_eq, if◌then◌else◌, List, [], ◌∷◌, ◌++◌, length, get_or, set, flat_map, codes, Option, Some, None, ⊤}
+use Rattle.std.specs.Prelude.{◌≡◌, ℕ, suc, ◌+◌, ◌-◌, ◌<◌, ◌≤◌, pos, negsuc, Bool, true, false, ◌&&◌, ◌||◌, nat_lt, nat_eq, if◌then◌else◌, List, [], ◌∷◌, ◌++◌, length, get_or, set, flat_map, codes, Option, Some, None, IsTrue, ⊤}
 use Rattle.std.specs.Ordering.{int_cmp, int_eq, is_lt}
 use Rattle.std.specs.List.{starts_with}
 use lib.Pointwise.{pointwise}
@@ -31,6 +31,52 @@ is_temporary rid = int_eq rid.cluster (negsuc 0) && is_lt (int_cmp rid.position 
 abbrev pub is_bag_name : List ℕ → Bool
 is_bag_name name = starts_with nat_eq name (codes "out_") || starts_with nat_eq name (codes "in_")
 
+-- ---- values as records hold them
+
+-- the identifier comes before each of these in row order
+abbrev pub precedes : Rid → List Rid → Bool
+precedes rid [] = true
+precedes rid (r ∷ rs) = comes_before rid r && precedes rid rs
+
+-- the identifiers strictly rise in row order
+abbrev pub rises : List Rid → Bool
+rises [] = true
+rises (r ∷ rs) = precedes r rs && rises rs
+
+-- no name is empty
+abbrev pub are_named : Fields → Bool
+are_named no_pairs = true
+are_named (pair name t fs) = nat_lt 0 (length name) && are_named fs
+
+-- At every depth the links of a set strictly rise, and the fields of a document have names; a map may have an empty one. That
+-- names rise, that numbers are in their kind's range and that text is UTF-8 the code's types keep.
+abbrev mutual
+  pub is_proper : Tree → Bool
+  is_proper null = true
+  is_proper (boolean b) = true
+  is_proper (integer z) = true
+  is_proper (short z) = true
+  is_proper (long z) = true
+  is_proper (datetime z) = true
+  is_proper (str s) = true
+  is_proper (binary s) = true
+  is_proper (embedded class fields) = are_named fields && are_proper_fields fields
+  is_proper (embedded_list items) = are_proper items
+  is_proper (embedded_map fields) = are_proper_fields fields
+  is_proper (link rid) = true
+  is_proper (link_list rids) = true
+  is_proper (link_set rids) = rises rids
+  is_proper (link_map links) = true
+  is_proper (byte z) = true
+
+  pub are_proper : Trees → Bool
+  are_proper no_trees = true
+  are_proper (more_trees t ts) = is_proper t && are_proper ts
+
+  pub are_proper_fields : Fields → Bool
+  are_proper_fields no_pairs = true
+  are_proper_fields (pair name t fs) = is_proper t && are_proper_fields fs
+
 -- ---- formed transactions
 
 abbrev pub target : ChangeData → Rid
@@ -56,10 +102,10 @@ CreatesInOrder low made (update rid version fields ∷ cs) = (is_temporary rid �
 CreatesInOrder low made (delete rid version ∷ cs) = (is_temporary rid ≡ false) × CreatesInOrder low made cs
 CreatesInOrder low made (touch rid version ∷ cs) = (is_temporary rid ≡ false) × CreatesInOrder low made cs
 
--- names that a record's own fields may have, and values that nest no deeper than the limit
+-- names that a record's own fields may have, and proper values that nest no deeper than the limit
 abbrev pub HasOwnFields : Fields → Type 0
 HasOwnFields no_pairs = ⊤
-HasOwnFields (pair name t fs) = (0 < length name) × (is_bag_name name ≡ false) × (nesting t ≤ MAX_NESTING) × HasOwnFields fs
+HasOwnFields (pair name t fs) = (0 < length name) × (is_bag_name name ≡ false) × (nesting t ≤ MAX_NESTING) × IsTrue (is_proper t) × HasOwnFields fs
 
 abbrev pub HasOwn : List ChangeData → Type 0
 HasOwn [] = ⊤

@@ -1,4 +1,6 @@
 pub mod Value
+pub mod Fields
+pub mod FieldLaws
 pub mod Json
 pub mod Base
 pub mod Apply
@@ -9,3 +11,11 @@ pub mod Run
 pub mod Spelling
 pub mod Log
 pub mod Stage
+pub mod Sizes
+pub mod Weighing
+pub mod Refusing
+pub mod Views
+pub mod Soundness
+pub mod Histories
+pub mod Keeping
+pub mod Staging

@@ -1,12 +1,11 @@
 -- A run: which answers the lines of a script may have, one after the other, and what they leave.
-use Rattle.std.specs.Prelude.{◌≡◌, ◌⊎◌, ℕ, ◌+◌, ◌-◌, ◌*◌, pos, Bool, true, false, nat_lt, if◌then◌else◌, List, [], ◌∷◌, ◌++◌, length, Option, Some, None}
-use Rattle.std.specs.List.{list_any}
+use Rattle.std.specs.Prelude.{◌≡◌, ◌⊎◌, ℕ, ◌+◌, ◌-◌, pos, Bool, true, false, nat_lt, List, [], ◌∷◌, ◌++◌, length, Option, Some, None}
 use Rattle.ori_bytes.specs.declared.rid.Rid.{Rid}
-use Rattle.ori_bytes.specs.declared.limits.TheConstants.{PAGE_BYTES}
 use Rattle.ori_spec.specs.Value.{Fields}
-use Rattle.ori_spec.specs.Base.{BaseData, ChangeData, create, update, delete, touch, TxData, EntryData, commit}
+use Rattle.ori_spec.specs.Base.{BaseData, TxData, EntryData, commit}
 use Rattle.ori_spec.specs.Apply.{fresh, apply_tx, cluster_without_room}
 use Rattle.ori_spec.specs.Statement.{MeaningData, not_built, answered, pending, Means, rows_at}
+use Rattle.ori_spec.specs.Weighing.{log_need}
 use Rattle.ori_spec.specs.Line.{LineData, statement, tries, step}
 use Rattle.ori_spec.specs.Reply.{unbuilt, cluster_full, log_full, halted, fault, no_memory, ReplyData, AnswerData, to_session, to_step, refused, granted}
 
@@ -22,22 +21,6 @@ pub record RunData : Type 0 where
 
 abbrev pub run_start : BaseData → ℕ → RunData
 run_start base room = record { base = base; history = []; doubtful = []; halted = None; room = room }
-
--- ---- what a commit takes of the log
-
-abbrev pub makes_record : ChangeData → Bool
-makes_record (create temp class fields) = true
-makes_record (update rid version fields) = false
-makes_record (delete rid version) = false
-makes_record (touch rid version) = false
-
--- the pages that a transaction changes: each change is of one record's page, and new records are counted on page 0
-abbrev pub pages_changed : List ChangeData → ℕ
-pages_changed changes = length changes + (if list_any makes_record changes then 1 else 0)
-
--- the bytes of its log record with the gate before it and the gate behind it
-abbrev pub log_need : TxData → ℕ
-log_need tx = 1 + 4 + (4 + pages_changed tx.changes * (4 + PAGE_BYTES)) + 1
 
 -- the rows of new records, as they stand in the base
 abbrev pub rows_of_new : BaseData → List Rid → List Fields

@@ -1,4 +1,4 @@
-mod Lookups
-mod Names
+mod Gaps
+mod Orders
 mod Places
 mod Trees

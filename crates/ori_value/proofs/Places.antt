@@ -1,18 +1,16 @@
 -- Pairs of the code beside the fields that they stand for, by their places.
-use Rattle.std.proofs.Common.{◌≡◌, ℕ, zero, suc, ◌<◌, ◌≤◌, List, [], ◌∷◌, length, get_or, set, Some, Result, Ok, Err, IfOk, IfErr, Ordering, Less, Equal, Greater, nat_cmp, Bool, true, false, IsTrue, ◌↔◌, true≢false, add-one, refl, sym, ap, ◌∙◌, subst, arith}
+use Rattle.std.proofs.Common.{◌≡◌, ℕ, zero, suc, ◌<◌, ◌≤◌, List, [], ◌∷◌, length, get_or, set, Some, Result, Ok, Err, IfOk, IfErr, Ordering, Less, Equal, Greater, nat_cmp, refl, sym, subst, arith}
 use Rattle.std.proofs.lemmas.Map.Lookups.{exact_bytes}
 use Rattle.std.specs.Cmp.Lexicographic.{slice_cmp}
-use Rattle.std.specs.List.{insert, remove, HoldsAt, AllWithin, IsAllAdjacentAnswer}
+use Rattle.std.specs.List.{insert, remove, HoldsAt, AllWithin}
 use Rattle.std.specs.List.Sorted.{IsSearchInRange, IsBinarySearchResult, IsNonDecreasingBy}
-use Rattle.std.specs.Ordering.{ordering_index, is_lt}
+use Rattle.std.specs.Ordering.{ordering_index}
 use Rattle.ori_value.specs.declared.value.Value.{Value}
-use Rattle.ori_value.specs.declared.value.Value.TheVariants.{Null}
-use Rattle.ori_value.specs.Fields.{IsBefore, IsBeforeAll, IsRising, IsAt, IsGap, field, put, without}
+use Rattle.ori_spec.specs.Fields.{IsBefore, IsBeforeAll, IsRising, field, put, without}
+use Rattle.ori_value.specs.Places.{IsAt, IsGap}
 use Rattle.ori_value.specs.View.{tree_of, fields_of}
-use Rattle.ori_value.proofs.Names.{before_trans, before_all_trans, after, before_of_after, differs_after, same_name, same_order}
-
-abbrev pub Pair : Type 0
-Pair = List ℕ × Value
+use Rattle.ori_spec.proofs.Names.{before_trans, after, before_of_after, differs_after, same_name, same_order}
+use Rattle.ori_value.proofs.Orders.{Pair, before_one}
 
 pub at_within : (name : List ℕ) (ps : List Pair) (i : ℕ) → IsAt name (fields_of ps) i → i < length ps
 at_within name [] i h = elim h [ ]
@@ -44,12 +42,6 @@ pub without_at : (name : List ℕ) (ps : List Pair) (i : ℕ) → IsAt name (fie
 without_at name [] i h = elim h [ ]
 without_at name (p ∷ ps) zero h = rw (same_name name p.0 h) refl
 without_at name (p ∷ ps) (suc i) h = rw (differs_after p.0 name h.0, without_at name ps i h.1) refl
-
--- a name that comes before all comes before the one at each place
-before_one : (name : List ℕ) (ps : List Pair) (j : ℕ) (d : Pair) → IsBeforeAll name (fields_of ps) → j < length ps → IsBefore name (get_or ps j d).0
-before_one name [] j d h lt = absurd (omega arith)
-before_one name (p ∷ ps) zero d h lt = h.0
-before_one name (p ∷ ps) (suc j) d h lt = before_one name ps j d h.1 (omega arith)
 
 index_at_most : (o : Ordering) → ordering_index o ≤ 2
 index_at_most Less = omega arith
@@ -94,34 +86,3 @@ pub searched : (name : List ℕ) (ps : List Pair) → IsRising (fields_of ps) �
     → record { found : IfOk r (IsAt name (fields_of ps)); absent : IfErr r (IsGap name (fields_of ps)) }
 searched name ps h (Ok at) within is = record { found = found_at name ps at h within is; absent = tt }
 searched name ps h (Err at) within is = let parted = is (comparisons_rise name ps h) in record { found = tt; absent = gap_at name ps at within parted.0 parted.1 }
-
-less_of_test : (o : Ordering) → is_lt o ≡ true → o ≡ Less
-less_of_test Less h = refl
-less_of_test Equal h = cc
-less_of_test Greater h = cc
-
-rising_of_next : (ps : List Pair) → ((k : ℕ) (d : Pair) → suc k < length ps → IsBefore (get_or ps k d).0 (get_or ps (suc k) d).0) → IsRising (fields_of ps)
-rising_of_next [] next = tt
-rising_of_next (p ∷ []) next = (tt, tt)
-rising_of_next (p ∷ q ∷ ps) next =
-    let rest = rising_of_next (q ∷ ps) (λ k d lt. next (suc k) d (omega arith)) in
-    let first : IsBefore p.0 q.0 = next zero p (omega arith) in
-    ((first, before_all_trans p.0 q.0 (fields_of ps) first rest.0), rest)
-
-next_of_rising : (ps : List Pair) → IsRising (fields_of ps) → (k : ℕ) (d : Pair) → suc k < length ps → IsBefore (get_or ps k d).0 (get_or ps (suc k) d).0
-next_of_rising [] h k d lt = absurd (omega arith)
-next_of_rising (p ∷ ps) h zero d lt = before_one p.0 ps zero d h.0 (omega arith)
-next_of_rising (p ∷ ps) h (suc k) d lt = next_of_rising ps h.1 k d (omega arith)
-
--- a test of each name and the next tells whether all names rise
-pub tested : (ps : List Pair) (r : Bool) → IsAllAdjacentAnswer (λ p q b. b ≡ is_lt (slice_cmp nat_cmp p.0 q.0)) ps r → IsTrue r ↔ IsRising (fields_of ps)
-tested ps true all = (λ _. rising_of_next ps (λ k d lt. less_of_test _ (sym (rw add-one at (all k d (rw add-one lt))))), λ _. refl)
-tested ps false some = (
-  λ h. absurd (true≢false (sym h)),
-  λ rising.
-      let k = some.0 in
-      let d : Pair = ([], Null) in
-      let less : IsBefore (get_or ps k d).0 (get_or ps (suc k) d).0 = next_of_rising ps rising k d (omega (arith, some.1)) in
-      let test : false ≡ is_lt (slice_cmp nat_cmp (get_or ps k d).0 (get_or ps (suc k) d).0) = rw add-one at (some.2 d) in
-      absurd (true≢false (sym (test ∙ ap is_lt less))),
-)

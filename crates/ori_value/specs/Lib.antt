@@ -1,6 +1,5 @@
-pub mod Fields
-pub mod Laws
 pub mod Links
 pub mod Nesting
+pub mod Places
 pub mod TreeCode
 pub mod View

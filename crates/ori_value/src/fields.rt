@@ -1,7 +1,8 @@
 // Fields: names with values.
 ghost use Rattle.std.specs.Prelude.{◌≡◌, IfOk, IfErr, OnOk, OnErr, IsSome, IsOk, IsTrue, ◌↔◌, is_some, option_map};
 ghost use Rattle.ori_spec.specs.Value.{no_pairs};
-ghost use Rattle.ori_value.specs.Fields.{field, put, without, IsRising, IsAt, IsGap};
+ghost use Rattle.ori_spec.specs.Fields.{field, put, without, IsRising};
+ghost use Rattle.ori_value.specs.Places.{IsAt, IsGap};
 ghost use Rattle.ori_value.specs.View.{tree_of, fields_of};
 
 use crate::value::Value;
@@ -25,7 +26,7 @@ impl Model for FieldList {
 
     ghost coded = { coded_fields };
 
-    ghost use Rattle.ori_value.specs.Fields.{IsRising};
+    ghost use Rattle.ori_spec.specs.Fields.{IsRising};
     ghost use Rattle.ori_value.specs.View.{fields_of};
 
     ghost view = { λ l. fields_of l.pairs.items };

@@ -6,7 +6,6 @@
 
 mod fields;
 mod kind;
-mod laws;
 mod lists;
 mod rid_fields;
 mod value;
@@ -14,9 +13,8 @@ mod values;
 
 pub use fields::{FieldList, names_rise};
 pub use kind::Kind;
-pub use laws::{put_law, without_law};
 pub use lists::{KeyList, TextList};
-pub use rid_fields::RidFieldList;
+pub use rid_fields::{RidFieldList, link_names_rise};
 pub use value::{Document, Value};
 pub use values::ValueList;
 

@@ -1,13 +1,14 @@
 // Names with record identifiers.
-ghost use Rattle.std.specs.Prelude.{◌≡◌, IfOk, OnOk, OnErr};
+ghost use Rattle.std.specs.Prelude.{◌≡◌, IfOk, IsTrue, ◌↔◌};
 ghost use Rattle.ori_spec.specs.Value.{unlinked};
+ghost use Rattle.ori_spec.specs.Fields.{IsRisingLinks};
 ghost use Rattle.ori_value.specs.Links.{links_of};
 
 use ori_bytes::{NoMemory, Rid, Text};
 use std::alloc::Global;
 use std::marker::Model;
 
-/// Names and record identifiers, which a contract sees as their pairs.
+/// Names and record identifiers, which a contract sees as their pairs. Names differ and rise in byte order.
 #[derive(Debug, Drop)]
 pub struct RidFieldList {
     pairs: Vec<(Text, Rid)>,
@@ -15,6 +16,7 @@ pub struct RidFieldList {
 
 impl Model for RidFieldList {
     ghost use Rattle.ori_spec.specs.Value.{Links};
+    ghost use Rattle.ori_spec.specs.Fields.{IsRisingLinks};
     ghost use Rattle.ori_value.specs.Links.{links_of};
     ghost use Rattle.ori_value.specs.TreeCode.{coded_links};
 
@@ -23,6 +25,8 @@ impl Model for RidFieldList {
     ghost coded = { coded_links };
 
     ghost view = { λ l. links_of l.pairs.items };
+
+    ghost invariant = { λ l. IsRisingLinks (links_of l.pairs.items) };
 }
 
 impl RidFieldList {
@@ -35,8 +39,9 @@ impl RidFieldList {
         }
     }
 
-    /// Owns a `Vec`; takes no memory.
+    /// Owns a `Vec` of pairs in rising order of their names, which `link_names_rise` tests; takes no memory.
     pub fn from_vec(pairs: Vec<(Text, Rid)>) -> Self
+        requires { IsRisingLinks (links_of pairs.items) }
         ensures { result ≡ links_of pairs.items }
     {
         RidFieldList { pairs }
@@ -44,14 +49,16 @@ impl RidFieldList {
 
     /// Gives the `Vec` back.
     pub fn into_vec(self) -> Vec<(Text, Rid)>
-        ensures { links_of result.items ≡ self }
+        ensures all { links_of result.items ≡ self }
+        ensures rising { IsRisingLinks self }
     {
         self.pairs
     }
 
-    /// The pairs.
+    /// The pairs, in rising order of their names.
     pub fn as_slice(&self) -> &[(Text, Rid)]
-        ensures { links_of result.now ≡ self.now }
+        ensures all { links_of result.now ≡ self.now }
+        ensures rising { IsRisingLinks self.now }
     {
         self.pairs.as_slice()
     }
@@ -66,4 +73,11 @@ impl RidFieldList {
         }
         Ok(RidFieldList { pairs })
     }
+}
+
+/// Whether the names of pairs differ and rise in byte order, as `RidFieldList::from_vec` asks.
+pub fn link_names_rise(pairs: &[(Text, Rid)]) -> bool
+    ensures { IsTrue result ↔ IsRisingLinks (links_of pairs.now) }
+{
+    pairs.is_sorted_by(|one, next| one.0.as_str() < next.0.as_str())
 }

@@ -1,7 +1,7 @@
 // Values put together by hand.
 use crate::{
-    Document, FieldList, KeyList, RidFieldList, TextList, Value, ValueList, names_rise, put_law,
-    without_law,
+    Document, FieldList, KeyList, RidFieldList, TextList, Value, ValueList, link_names_rise,
+    names_rise,
 };
 use ori_bytes::{Blob, NoMemory, Rid, RidList, Text};
 use std::alloc::Global;
@@ -44,8 +44,6 @@ fn fields_by_name(rt: HostRuntime) -> Result<(), Fail> {
     let pairs = fields.into_vec();
     assert_eq!(rt; pairs.len(), 3);
     assert!(rt; names_rise(&pairs));
-    put_law();
-    without_law();
     Ok(())
 }
 
@@ -87,11 +85,6 @@ fn lists(rt: HostRuntime) -> Result<(), Fail> {
     assert_eq!(rt; keys.copy()?.into_vec().len(), 1);
     assert_eq!(rt; KeyList::from_vec(keys.into_vec()).as_slice().len(), 1);
 
-    let mut pairs = Vec::new(alloc);
-    pairs.push((text(alloc, "boss")?, RID))?;
-    let links = RidFieldList::from_vec(pairs);
-    assert_eq!(rt; links.as_slice().len(), 1);
-    assert_eq!(rt; links.copy()?.into_vec().len(), 1);
     assert_eq!(rt; RidFieldList::new(alloc).as_slice().len(), 0);
     assert_eq!(rt;
         ValueList::from_vec(ValueList::new(alloc).into_vec())
@@ -108,5 +101,29 @@ fn lists(rt: HostRuntime) -> Result<(), Fail> {
 
     let rids = RidList::new(alloc);
     assert_eq!(rt; rids.as_slice().len(), 0);
+    Ok(())
+}
+
+fn pairs(alloc: Global, names: &[&str]) -> Result<Vec<(Text, Rid)>, NoMemory> {
+    let mut pairs = Vec::new(alloc);
+    for name in names {
+        pairs.push((text(alloc, name)?, RID))?;
+    }
+    Ok(pairs)
+}
+
+#[test]
+fn links_by_name(rt: HostRuntime) -> Result<(), Fail> {
+    let alloc = rt.alloc();
+    for names in [["boss", "boss"], ["boss", "agent"], ["ä", "z"]] {
+        assert!(rt; !link_names_rise(&pairs(alloc, &names)?));
+    }
+    let rising = pairs(alloc, &["", "agent", "boss", "ä"])?;
+    if !link_names_rise(&rising) {
+        return Err(Fail::new("out of order"));
+    }
+    let links = RidFieldList::from_vec(rising);
+    assert_eq!(rt; links.as_slice().len(), 4);
+    assert_eq!(rt; links.copy()?.into_vec().len(), 4);
     Ok(())
 }

@@ -1,5 +1,5 @@
 -- How an INSERT was decided, and that what is kept is what the run has come to.
-use Rattle.std.proofs.Common.{◌≡◌, ◌⊎◌, ℕ, ◌+◌, ◌-◌, ◌<◌, ◌≤◌, pos, Bool, true, false, List, [], ◌∷◌, ◌++◌, length, Option, Some, None, Ok, Err, option_map, refl, sym, ap, ap₂, ◌∙◌, subst, inl, inr, arith}
+use Rattle.std.proofs.Common.{◌≡◌, ◌⊎◌, ℕ, ◌-◌, ◌<◌, ◌≤◌, Bool, true, false, List, [], ◌∷◌, ◌++◌, length, Option, Some, None, Err, option_map, refl, sym, ap, ap₂, ◌∙◌, subst, inl, inr, arith}
 use Rattle.std.specs.Prelude.{nat_lt}
 use Rattle.std.proofs.lemmas.List.{append-nil, append_cancel_left}
 use Rattle.std.proofs.lemmas.Bool.Decides.{nat_tests}
@@ -10,9 +10,9 @@ use Rattle.ori_spec.specs.Apply.{fresh, rid_at, next_of, apply_tx, cluster_witho
 use Rattle.ori_spec.specs.Statement.{insert_tx, rows_at}
 use Rattle.ori_spec.specs.Stage.{StandFor}
 use Rattle.ori_spec.specs.Reply.{ReplyData, granted, refused, fault, log_full, no_memory}
-use Rattle.ori_spec.specs.Run.{RunData, rows_of_new, log_need, DecidesByRoom, DecidesByBase, DecidesBy, Decides}
+use Rattle.ori_spec.specs.Weighing.{log_need}
+use Rattle.ori_spec.specs.Run.{RunData, rows_of_new, DecidesByRoom, DecidesByBase, DecidesBy, Decides}
 use Rattle.ori_log.specs.Appending.{room_of}
-use Rattle.ori_log.specs.declared.log.Log.{Log}
 use Rattle.orient_run.specs.declared.database.Database.{Database}
 use Rattle.orient_run.specs.declared.engine.Engine.{Engine}
 use Rattle.orient_run.specs.declared.engine.InsertFault.{InsertFault}
@@ -21,7 +21,7 @@ use Rattle.orient_run.specs.declared.model.Entry.{Entry}
 use Rattle.orient_run.specs.Records.{entry_of, entries_of}
 use Rattle.orient_run.specs.Replies.{insert_refusal}
 use Rattle.orient_run.specs.Crash.{doubts}
-use Rattle.orient_run.specs.Engine.{MayAppend, IsMade, IsDecided, IsUnchanged, Refuses, HaltsBy}
+use Rattle.orient_run.specs.Engine.{MayAppend, IsMade, IsDecided, Refuses, HaltsBy}
 use Rattle.orient_run.specs.Database.{KeptData, kept_of, Keeps, IsPrepared, IsInserted, doubt_by}
 use Rattle.orient_run.proofs.Inserts.{fresh-insert_tx, inserted_row}
 
@@ -57,6 +57,12 @@ by_room : (run new : RunData) (session : ℕ) (tx : TxData) (reply : ReplyData) 
 by_room run new session tx reply short going room is decided =
     subst (λ (h : Option ℕ). DecidesBy run session tx h reply new) (sym going)
     (subst (λ (c : Option ℕ). DecidesByBase run session tx c reply new) (sym room) (subst (λ (b : Bool). DecidesByRoom run session tx b reply new) (sym is) decided))
+
+-- an INSERT's reply in other words
+pub replied : {run : RunData} {session : ℕ} {name value : List ℕ} {kept : KeptData} (reply other : ReplyData) → reply ≡ other
+    → IsInserted run session name value reply kept → IsInserted run session name value other kept
+replied {run = run} {session = session} {name = name} {value = value} {kept = kept} reply other same =
+    subst (λ (r : ReplyData). IsInserted run session name value r kept) same
 
 -- ---- what is kept
 

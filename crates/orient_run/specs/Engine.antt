@@ -16,7 +16,7 @@ use Rattle.ori_log.specs.Opening.{IsFirm}
 use Rattle.ori_log.specs.Appending.{IsAttached, room_of}
 use Rattle.ori_log.specs.declared.log.Log.{Log}
 use Rattle.orient_run.specs.declared.engine.Engine.{Engine}
-use Rattle.ori_spec.specs.Run.{log_need}
+use Rattle.ori_spec.specs.Weighing.{log_need}
 use Rattle.orient_run.specs.declared.engine.InsertFault.{InsertFault}
 use Rattle.orient_run.specs.declared.engine.InsertFault.TheVariants as faults
 use Rattle.orient_run.specs.Crash.{CrashSafe}

@@ -1,7 +1,7 @@
 -- What the code's replies stand for.
-use Rattle.std.specs.Prelude.{ℕ, pos, [], map, Result, Ok, Err}
+use Rattle.std.specs.Prelude.{ℕ, pos, List, [], map, Result, Ok, Err}
 use Rattle.ori_spec.specs.Value.{Fields}
-use Rattle.ori_spec.specs.Reply.{RefusalData, unbuilt, cluster_full, log_full, halted, fault, no_memory, ReplyData, AnswerData, to_session, to_step}
+use Rattle.ori_spec.specs.Reply.{RefusalData, unbuilt, cluster_full, log_full, halted, fault, no_memory, ReplyData, AnswerData, to_session, to_step, granted, refused}
 use Rattle.orient_run.specs.declared.reply.Refusal.{Refusal}
 use Rattle.orient_run.specs.declared.reply.Refusal.TheVariants as refusals
 use Rattle.orient_run.specs.declared.engine.InsertFault.{InsertFault}
@@ -37,6 +37,11 @@ told_of (Err refusal) = Err (refusal_of refusal)
 
 abbrev pub reply_of : Reply → ReplyData
 reply_of r = record { rows = map row_of r.rows; temps = []; told = told_of r.told }
+
+-- the reply to an INSERT, by its rows or why it wasn't made
+abbrev pub insert_reply : Result (List Row) Refusal → ReplyData
+insert_reply (Ok rows) = granted (map row_of rows) 1
+insert_reply (Err why) = refused (refusal_of why)
 
 abbrev pub answer_of : Answer → AnswerData
 answer_of (ToSession session reply) = to_session session (reply_of reply)

@@ -143,6 +143,16 @@ fn insert_refusal(fault: InsertFault) -> Refusal
     }
 }
 
+// The reply to an INSERT: its rows, or why it wasn't made.
+fn insert_reply(alloc: Global, made: Result<RowList, Refusal>) -> Reply
+    ensures { reply_of result ≡ replies.insert_reply made }
+{
+    match made {
+        Ok(rows) => Reply { rows, told: Ok(1) },
+        Err(why) => refusal(alloc, why),
+    }
+}
+
 impl Database {
     ghost use Rattle.ori_volume.specs.Story.{Tells};
     ghost use Rattle.orient_run.specs.Database.{kept_of, Keeps, IsPrepared, IsOneMore, doubt_by, IsInserted, IsMarked, IsStepped, IsShort, StaysSafe};
@@ -221,23 +231,23 @@ impl Database {
         Ok(rows)
     }
 
-    // The reply to an INSERT that wasn't made. Its entry, the history's last, is taken back, and is doubtful where its write failed.
-    fn take_back(&mut self, alloc: Global, fault: InsertFault) -> Reply
+    // Why an INSERT wasn't made. Its entry, the history's last, is taken back, and is doubtful where its write failed.
+    fn take_back(&mut self, fault: InsertFault) -> Refusal
         ensures engine { self.new.engine ≡ self.old.engine }
         ensures marks { self.new.marks.items ≡ self.old.marks.items }
         ensures entry { (entries : List Entry) (entry : Entry) → self.old.history ≡ entries ++ entry ∷ []
             → (self.new.history ≡ entries) × (self.new.doubt ≡ doubt_by fault self.old.doubt entry) }
-        ensures reply { reply_of result ≡ refused (replies.insert_refusal fault) }
+        ensures why { refusal_of result ≡ replies.insert_refusal fault }
     {
         let last = self.history.take_last();
         if let InsertFault::Fault = fault {
             self.doubt = last;
-            return refusal(alloc, Refusal::Fault);
+            return Refusal::Fault;
         }
-        refusal(alloc, insert_refusal(fault))
+        insert_refusal(fault)
     }
 
-    // The reply to an INSERT. Its entry joins the history before the log is written, and its mark after that.
+    // Makes an INSERT, and answers its rows. Its entry joins the history before the log is written, and its mark after that.
     fn insert<V: Volume>(
         &mut self,
         alloc: Global,
@@ -245,27 +255,24 @@ impl Database {
         session: u8,
         name: &str,
         value: &str,
-    ) -> Reply
+    ) -> Result<RowList, Refusal>
         requires name { IsTrue (is_field_name name.now) }
         requires small { length name.now + length value.now ≤ MAX_LINE_BYTES }
-        ensures inserted { (run : RunData) → Keeps (kept_of self.old) run → IsInserted run session name.now value.now (reply_of result) (kept_of self.new) }
+        ensures inserted { (run : RunData) → Keeps (kept_of self.old) run → IsInserted run session name.now value.now (replies.insert_reply result) (kept_of self.new) }
         ensures crash { Tells (StaysSafe self.old self.new) (V.story volume.old) (V.story volume.new) }
         ensures marked { IsMarked self.old self.new (V.moment volume.new) }
         ensures halts { MayHalt self.old.engine.halted self.new.engine.halted (V.faults volume.old) (V.faults volume.new) (V.log_faults volume.old) (V.log_faults volume.new) }
-        ensures fault_told { IsTrue (is_fault (told_of result.told)) → IsSome self.new.engine.halted }
+        ensures fault_told { IsTrue (is_fault (replies.insert_reply result).told) → IsSome self.new.engine.halted }
     {
         let Ok(rows) = self.prepare(alloc, session, name, value) else {
-            return refusal(alloc, Refusal::NoMemory);
+            return Err(Refusal::NoMemory);
         };
         match self.engine.insert(alloc, volume, name, value) {
             Ok(()) => {
                 let _ = self.marks.push(volume.moment());
-                Reply {
-                    rows: RowList::from_vec(rows),
-                    told: Ok(1),
-                }
+                Ok(RowList::from_vec(rows))
             }
-            Err(fault) => self.take_back(alloc, fault),
+            Err(fault) => Err(self.take_back(fault)),
         }
     }
 
@@ -286,7 +293,10 @@ impl Database {
         ensures fault_told { IsTrue (is_fault (told_of result.told)) → IsSome self.new.engine.halted }
     {
         match read_statement(text) {
-            Statement::Insert { name, value } => self.insert(alloc, volume, session, name, value),
+            Statement::Insert { name, value } => {
+                let made = self.insert(alloc, volume, session, name, value);
+                insert_reply(alloc, made)
+            }
             Statement::Select { rid } => self.select(alloc, rid),
             Statement::Unbuilt => refusal(alloc, Refusal::Unbuilt),
         }

@@ -1,5 +1,5 @@
 // The database: its pages in memory, and the log that holds them on the volume.
-ghost use Rattle.std.specs.Prelude.{◌≡◌, ◌≤◌, ◌<◌, ◌+◌, ℕ, List, length, IfOk, IfErr, IfSome, OnOk, OnErr, IsErrOf, IsTrue, ◌↔◌, None, Some, Err};
+ghost use Rattle.std.specs.Prelude.{◌≡◌, ◌≤◌, ◌<◌, ◌+◌, ℕ, List, length, IfOk, IfErr, IfSome, OnOk, OnErr, IsErrOf, IsTrue, ◌↔◌, vec_len, vec_capacity, None, Some, Err};
 ghost use Rattle.std.specs.Option.{option_map};
 ghost use Rattle.ori_bytes.specs.declared.limits.TheConstants.{MAX_LINE_BYTES};
 ghost use Rattle.ori_volume.specs.Story.{Tells};
@@ -11,7 +11,8 @@ ghost use Rattle.ori_log.specs.Files.{files_data};
 ghost use Rattle.ori_log.specs.Appending.{room_of, FailsAs};
 ghost use Rattle.orient_run.specs.Records.{record_of};
 ghost use Rattle.orient_run.specs.Opening.{Finds};
-ghost use Rattle.orient_run.specs.Pages.{insert_images, IsOpened, IsNoTable};
+ghost use Rattle.orient_run.specs.Counting.{AreCounted};
+ghost use Rattle.orient_run.specs.Pages.{grown, insert_images, IsOpened, IsNoTable};
 ghost use Rattle.ori_volume.specs.declared.file.FileNo.{FileNo};
 
 use crate::model::Stored;
@@ -136,6 +137,17 @@ fn pages_back(images: ImageList) -> Option<NewPages>
     Some(NewPages { head, record })
 }
 
+// Gives a table the pages of an insert's images, for which it has a place.
+fn take_pages(table: &mut Table, images: ImageList)
+    requires place { vec_len table.old.pages < vec_capacity table.old.pages }
+    requires made { (page : ℕ) × (new : NewPages) × (images ≡ insert_images page new) × AreCounted (grown table.old.pages.items new) }
+    ensures { (page : ℕ) (new : NewPages) → images ≡ insert_images page new → table.new.pages.items ≡ grown table.old.pages.items new }
+{
+    if let Some(new) = pages_back(images) {
+        table.grow(new);
+    }
+}
+
 impl Engine {
     ghost use Rattle.orient_run.specs.Engine.{Starts, Inserts, IsStarted, IsDecided, Refuses, HaltsBy};
 
@@ -226,9 +238,7 @@ impl Engine {
             self.halted = Some(volume.faults());
             return Err(InsertFault::Fault);
         }
-        if let Some(new) = pages_back(images) {
-            self.table.grow(new);
-        }
+        take_pages(&mut self.table, images);
         Ok(())
     }
 }

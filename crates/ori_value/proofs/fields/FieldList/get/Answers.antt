@@ -1,8 +1,9 @@
 use Rattle.std.proofs.Common.{Some, sym, ap, ◌∙◌, arith}
-use Rattle.ori_value.specs.Fields.{field}
+use Rattle.ori_spec.specs.Fields.{field}
 use Rattle.ori_value.specs.View.{tree_of}
-use Rattle.ori_value.proofs.Names.{field_gap}
-use Rattle.ori_value.proofs.Places.{Pair, at_within, field_at}
+use Rattle.ori_value.proofs.Gaps.{field_gap}
+use Rattle.ori_value.proofs.Orders.{Pair}
+use Rattle.ori_value.proofs.Places.{at_within, field_at}
 use Rattle.ori_value.proofs.fields.FieldList.get.Goals as goal
 
 pub index-requires : goal.index-requires

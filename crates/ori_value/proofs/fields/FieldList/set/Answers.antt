@@ -1,8 +1,9 @@
 use Rattle.std.proofs.Common.{sym, ap, ◌∙◌, subst, arith}
 use mathlib.Core.Bool.{false≢true}
-use Rattle.ori_value.specs.Fields.{IsRising, put}
+use Rattle.ori_spec.specs.Fields.{IsRising, put}
 use Rattle.ori_value.specs.View.{tree_of}
-use Rattle.ori_value.proofs.Names.{field_gap, rising_put}
+use Rattle.ori_spec.proofs.Names.{rising_put}
+use Rattle.ori_value.proofs.Gaps.{field_gap}
 use Rattle.ori_value.proofs.Places.{at_within, gap_within, put_at, put_gap}
 use Rattle.ori_value.proofs.fields.FieldList.set.Goals as goal
 

@@ -1,7 +1,8 @@
 use Rattle.std.proofs.Common.{sym, ap, ◌∙◌, is_some, subst, arith}
-use Rattle.ori_value.proofs.Names.{field_gap, without_gap, rising_without}
+use Rattle.ori_spec.proofs.Names.{rising_without}
+use Rattle.ori_value.proofs.Gaps.{field_gap, without_gap}
 use Rattle.ori_value.proofs.Places.{at_within, field_at, without_at}
-use Rattle.ori_value.specs.Fields.{IsRising, field, without}
+use Rattle.ori_spec.specs.Fields.{IsRising, field, without}
 use Rattle.ori_value.proofs.fields.FieldList.unset.Goals as goal
 
 pub remove-requires : goal.remove-requires

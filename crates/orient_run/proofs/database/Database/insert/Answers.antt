@@ -1,13 +1,11 @@
-use Rattle.std.proofs.Common.{◌≡◌, ◌++◌, ◌∷◌, [], ap, ◌∙◌, sym, subst, subst₂, arith, map, Ok, refl, option_map, length, is_ok, ◌<◌, ◌≤◌, ℕ, List, Option, Err}
+use Rattle.std.proofs.Common.{◌≡◌, ◌++◌, ◌∷◌, [], ap, ◌∙◌, sym, subst, subst₂, map, refl, option_map}
 use Rattle.ori_volume.specs.Story.{Tells}
 use Rattle.ori_spec.specs.Stage.{StandFor}
-use Rattle.ori_spec.specs.Reply.{granted}
+use Rattle.ori_spec.specs.Reply.{granted, refused}
 use Rattle.orient_run.specs.declared.database.Database.{Database}
 use Rattle.orient_run.specs.declared.engine.Engine.{Engine}
-use Rattle.orient_run.specs.declared.model.Entry.{Entry}
-use Rattle.orient_run.specs.declared.reply.Row.{Row}
 use Rattle.orient_run.specs.Records.{entry_of, entries_of}
-use Rattle.orient_run.specs.Replies.{reply_of, row_of}
+use Rattle.orient_run.specs.Replies.{refusal_of, row_of}
 use Rattle.orient_run.specs.Database.{KeptData, StaysSafe, IsInserted, doubt_by}
 use Rattle.orient_run.proofs.Decided.{kept_as, doubt_by-map, keeps_prepared, inserted_made, inserted_refused}
 use Rattle.orient_run.proofs.Kept.{pushed, entries-push, made_stays, refused_stays}
@@ -47,10 +45,10 @@ returns-in-Err-clause-inserted g c = λ run keeps.
     let before = keeps_prepared _ _ _ _ _ run c.prepare.ensures.engine (ap (λ o. option_map entry_of o) c.prepare.ensures.doubt) keeps in
     let done =
     inserted_refused run c.args.session c.args.name.now c.args.value.now c.prepare.new.self.engine c.insert.new.self (entries_of c.args.self.now.history) (entries_of c.prepare.new.self.history) _
-    (map row_of c.in-Ok.rows.items) (reply_of c.take_back.result) before (c.in-Ok.ensures.ok run.base keeps.sound keeps.stands) c.in-Err.fault (entry_of one.0) _ _ _
+    (map row_of c.in-Ok.rows.items) (refused (refusal_of c.take_back.result)) before (c.in-Ok.ensures.ok run.base keeps.sound keeps.stands) c.in-Err.fault (entry_of one.0) _ _ _
     (c.in-Err.ensures.decided run.base before.sound before.stands) c.in-Err.ensures.refused c.in-Err.ensures.halted
-    (ap entries_of one.1 ∙ entries-push c.args.self.now.history one.0) c.take_back.ensures.reply in
-    subst (λ (k : KeptData). IsInserted run c.args.session c.args.name.now c.args.value.now (reply_of c.take_back.result) k)
+    (ap entries_of one.1 ∙ entries-push c.args.self.now.history one.0) (ap (λ why. refused why) c.take_back.ensures.why) in
+    subst (λ (k : KeptData). IsInserted run c.args.session c.args.name.now c.args.value.now (refused (refusal_of c.take_back.result)) k)
     (sym (kept_as c.take_back.new.self c.insert.new.self c.args.self.now.history _ c.take_back.ensures.engine back.0 doubt_is)) done
 
 pub returns-in-Err-clause-crash : goal.returns-in-Err-clause-crash

@@ -1,4 +1,4 @@
-use Rattle.std.proofs.Common.{◌≡◌, ◌≤◌, ◌<◌, ℕ, List, length, None, Ok, Err, sym, ◌∙◌, ap, ap₂, subst, arith}
+use Rattle.std.proofs.Common.{◌≡◌, ◌≤◌, ◌<◌, ℕ, List, length, None, Ok, Err, sym, ◌∙◌, ap, subst, arith}
 use Rattle.std.specs.List.{AllByRecursion}
 use Rattle.ori_spec.specs.Apply.{apply_tx}
 use Rattle.ori_spec.specs.Log.{ImageData}
@@ -10,7 +10,7 @@ use Rattle.ori_log.specs.declared.fault.LogFault.{LogFault}
 use Rattle.ori_log.proofs.Stages.{tells_map}
 use Rattle.orient_run.specs.declared.engine.InsertFault.{InsertFault}
 use Rattle.orient_run.specs.declared.engine.InsertFault.TheVariants.{Fault}
-use Rattle.orient_run.specs.declared.table.NewPages.{NewPages}
+use Rattle.orient_run.specs.Counting.{AreCounted}
 use Rattle.orient_run.specs.Engine.{InsertsSafely}
 use Rattle.orient_run.specs.Pages.{grown, insert_images}
 use Rattle.orient_run.proofs.Held.{insert_done, insert_failed, need_is, at_least, not_enough, no_value, not_full}
@@ -30,6 +30,9 @@ returns-in-LogFull-clause-decided g c = λ base sound stands.
       omega (arith, need_told, room_told, short),
     )
 
+pub returns-in-Err-clause-refused : goal.returns-in-Err-clause-refused
+returns-in-Err-clause-refused g c = c.in-Ok.ensures.same
+
 pub returns-in-Err-clause-decided : goal.returns-in-Err-clause-decided
 returns-in-Err-clause-decided g c = λ base sound stands.
     let whole : AllByRecursion IsWhole c.in-Ok-images_of.images = subst (λ (l : List ImageData). AllByRecursion IsWhole l) c.images.view_is c.images.invariant in
@@ -42,7 +45,7 @@ returns-in-Err-clause-crash g c = tells_map _ _ _ _ (λ old new told appends. λ
     let pages = c.args.self.now.table.pages.items in
     let images : c.in-Ok-images_of.images ≡ insert_images (length pages) c.in-Ok.new = c.in-Ok-images_of.ensures ∙ ap (λ (n : ℕ). insert_images n c.in-Ok.new) c.len-page.ensures in
     insert_failed c.args.self.now.log pages c.in-Ok.new c.args.name.now c.args.value.now base held.0 old c.args.self.now.table.counted c.in-Ok.ensures.counts sound stands
-    (c.in-Ok.ensures.stands base sound stands) held.1 c.append.new.self c.append.new.self c.make_pages.new.self.pages.items c.in-Err.fault Fault new
+    (c.in-Ok.ensures.stands base sound stands) held.1 c.append.new.self c.append.new.self _ c.in-Err.fault Fault new
     (subst (λ (l : List ImageData). Joins {T = Unit {0}} {E = LogFault} c.args.self.now.log c.append.new.self held.0 l (Err c.in-Err.fault) old new) images (appends held.0 (held.1).attached)))
     c.in-Err.ensures.crash
 
@@ -56,16 +59,15 @@ returns-in-Err-clause-log_faults g c =
     let failed = not_full c.in-Err.fault _ _ (λ short. (c.in-Err.ensures.full short).0) c.in-Err.ensures.fits c.in_default-fault.not-LogFull in
     record { later = c.in-Err.ensures.log_faults.later; failed = λ is. c.in-Err.ensures.log_faults.failed (ap Err failed.1) }
 
-pub returns-in-Some-pages_back-clause-decided : goal.returns-in-Some-pages_back-clause-decided
-returns-in-Some-pages_back-clause-decided g c = λ base sound stands.
+pub returns-clause-decided : goal.returns-clause-decided
+returns-clause-decided g c = λ base sound stands.
     let pages = c.args.self.now.table.pages.items in
     let whole : AllByRecursion IsWhole c.in-Ok-images_of.images = subst (λ (l : List ImageData). AllByRecursion IsWhole l) c.images.view_is c.images.invariant in
     let need : need_of c.in-Ok-images_of.images ≡ 8210 = need_is c.in-Ok-images_of.images c.len-page.result c.in-Ok.new c.in-Ok-images_of.ensures whole in
     let enough : need_of c.in-Ok-images_of.images ≤ room_of c.args.self.now.log = at_least _ _ (λ short. let full = (c.in_default-append.ensures.full short).0 in absurd (cc full)) in
     let place = (c.in_default-append.ensures.counts).1 in
-    let back = c.pages_back.ensures c.len-page.result c.in-Ok.new c.in-Ok-images_of.ensures in
-    let same : c.in-Some-pages_back.new ≡ c.in-Ok.new = cc (back, c.in-Some-pages_back.is) in
-    let now : c.grow.new.self.pages.items ≡ grown pages c.in-Ok.new = c.grow.ensures ∙ ap₂ (λ (l : List (List ℕ)) (n : NewPages). grown l n) c.in-Ok.ensures.same same in
+    let now : c.take_pages.new.table.pages.items ≡ grown pages c.in-Ok.new =
+    c.take_pages.ensures c.len-page.result c.in-Ok.new c.in-Ok-images_of.ensures ∙ ap (λ (l : List (List ℕ)). grown l c.in-Ok.new) c.in-Ok.ensures.same in
     let after = c.in-Ok.ensures.stands base sound stands in
     let going : c.args.self.now.halted ≡ None = no_value _ c.in_default.not-Some in
     record {
@@ -77,15 +79,18 @@ returns-in-Some-pages_back-clause-decided g c = λ base sound stands.
       going = going;
     }
 
-pub returns-in-Some-pages_back-clause-crash : goal.returns-in-Some-pages_back-clause-crash
-returns-in-Some-pages_back-clause-crash g c = tells_map _ _ _ _ (λ old new told appends. λ base sound stands held.
+pub returns-clause-crash : goal.returns-clause-crash
+returns-clause-crash g c = tells_map _ _ _ _ (λ old new told appends. λ base sound stands held.
     let pages = c.args.self.now.table.pages.items in
-    let back = c.pages_back.ensures c.len-page.result c.in-Ok.new c.in-Ok-images_of.ensures in
-    let same : c.in-Some-pages_back.new ≡ c.in-Ok.new = cc (back, c.in-Some-pages_back.is) in
-    let now : c.grow.new.self.pages.items ≡ grown pages c.in-Ok.new = c.grow.ensures ∙ ap₂ (λ (l : List (List ℕ)) (n : NewPages). grown l n) c.in-Ok.ensures.same same in
+    let now : c.take_pages.new.table.pages.items ≡ grown pages c.in-Ok.new =
+    c.take_pages.ensures c.len-page.result c.in-Ok.new c.in-Ok-images_of.ensures ∙ ap (λ (l : List (List ℕ)). grown l c.in-Ok.new) c.in-Ok.ensures.same in
     let images : c.in-Ok-images_of.images ≡ insert_images (length pages) c.in-Ok.new = c.in-Ok-images_of.ensures ∙ ap (λ (n : ℕ). insert_images n c.in-Ok.new) c.len-page.ensures in
     subst (λ (l : List (List ℕ)). InsertsSafely {T = Unit {0}} {E = InsertFault} base (apply_tx base (insert_tx c.args.name.now c.args.value.now)) c.append.new.self l (Ok tt) old new) (sym now)
     (insert_done c.args.self.now.log pages c.in-Ok.new c.args.name.now c.args.value.now base held.0 old c.args.self.now.table.counted c.in-Ok.ensures.counts sound stands
     (c.in-Ok.ensures.stands base sound stands) held.1 c.append.new.self new
     (subst (λ (l : List ImageData). Joins {T = Unit {0}} {E = LogFault} c.args.self.now.log c.append.new.self held.0 l (Ok tt) old new) images (appends held.0 (held.1).attached))))
     c.in_default-append.ensures.crash
+
+pub take_pages-requires-clause-made : goal.take_pages-requires-clause-made
+take_pages-requires-clause-made g c =
+    (c.len-page.result, c.in-Ok.new, c.in-Ok-images_of.ensures, subst (λ (l : List (List ℕ)). AreCounted (grown l c.in-Ok.new)) (sym c.in-Ok.ensures.same) c.in-Ok.ensures.counts)

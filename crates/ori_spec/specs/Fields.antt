@@ -1,9 +1,9 @@
 -- Fields by their names.
-use Rattle.std.specs.Prelude.{◌≡◌, ℕ, zero, suc, List, Option, Some, None, ⊤, bytes_eq, if◌then◌else◌}
+use Rattle.std.specs.Prelude.{◌≡◌, ℕ, List, Option, Some, None, ⊤, bytes_eq, if◌then◌else◌}
 use Rattle.std.specs.Cmp.Lexicographic.{slice_cmp}
 use Rattle.std.specs.Ordering.{nat_cmp, match_ordering}
 use Rattle.std.specs.declared.cmp.Ordering.TheVariants.{Less}
-use Rattle.ori_spec.specs.Value.{Tree, Fields, no_pairs, pair}
+use Rattle.ori_spec.specs.Value.{Tree, Fields, no_pairs, pair, Links, unlinked, linked}
 
 -- the name comes before the other in byte order
 abbrev pub IsBefore : List ℕ → List ℕ → Type 0
@@ -17,6 +17,15 @@ IsBeforeAll name (pair other t fs) = IsBefore name other × IsBeforeAll name fs
 abbrev pub IsRising : Fields → Type 0
 IsRising no_pairs = ⊤
 IsRising (pair name t fs) = IsBeforeAll name fs × IsRising fs
+
+abbrev pub IsBeforeLinks : List ℕ → Links → Type 0
+IsBeforeLinks name unlinked = ⊤
+IsBeforeLinks name (linked other rid links) = IsBefore name other × IsBeforeLinks name links
+
+-- the names of the links rise in byte order, so no name comes twice
+abbrev pub IsRisingLinks : Links → Type 0
+IsRisingLinks unlinked = ⊤
+IsRisingLinks (linked name rid links) = IsBeforeLinks name links × IsRisingLinks links
 
 -- the value of the first field with the name
 abbrev pub field : List ℕ → Fields → Option Tree
@@ -32,15 +41,3 @@ put name t (pair other u fs) = match_ordering (slice_cmp nat_cmp name other) (pa
 abbrev pub without : List ℕ → Fields → Fields
 without name no_pairs = no_pairs
 without name (pair other u fs) = if bytes_eq name other then fs else pair other u (without name fs)
-
--- the name is that of field i, counted from 0, and greater than those before it
-abbrev pub IsAt : List ℕ → Fields → ℕ → Type 0
-IsAt name no_pairs i = ⊥
-IsAt name (pair other t fs) zero = name ≡ other
-IsAt name (pair other t fs) (suc i) = IsBefore other name × IsAt name fs i
-
--- the name is greater than those of the first i fields, and less than the others
-abbrev pub IsGap : List ℕ → Fields → ℕ → Type 0
-IsGap name fs zero = IsBeforeAll name fs
-IsGap name no_pairs (suc i) = ⊥
-IsGap name (pair other t fs) (suc i) = IsBefore other name × IsGap name fs i

@@ -1,13 +1,13 @@
 -- Names in byte order, and fields whose names rise.
-use Rattle.std.proofs.Common.{◌≡◌, ℕ, zero, suc, List, None, Ordering, Less, Equal, Greater, nat_cmp, is_eq, cond, Bool, true, false, bytes_eq, refl, sym, ap, ◌∙◌, subst}
+use Rattle.std.proofs.Common.{◌≡◌, ℕ, List, None, Ordering, Less, Equal, Greater, nat_cmp, is_eq, cond, Bool, true, false, bytes_eq, refl, sym, ap, ◌∙◌, subst}
 use Rattle.std.proofs.lemmas.Cmp.{nat_list_cmp_total}
 use Rattle.std.proofs.lemmas.Map.Lookups.{exact_bytes}
 use Rattle.std.proofs.lemmas.Map.Text.{is_eq-slice_cmp}
 use Rattle.std.proofs.lemmas.Slice.Eq.{bytes_eq-Decides}
 use Rattle.std.specs.Cmp.Lexicographic.{slice_cmp}
 use Rattle.std.specs.Ordering.{match_ordering, ordering_reverse}
-use Rattle.ori_spec.specs.Value.{Tree, Fields, no_pairs, pair}
-use Rattle.ori_value.specs.Fields.{IsBefore, IsBeforeAll, IsRising, field, put, without, IsGap}
+use Rattle.ori_spec.specs.Value.{Tree, Fields, no_pairs, pair, Links, unlinked, linked}
+use Rattle.ori_spec.specs.Fields.{IsBefore, IsBeforeAll, IsRising, IsBeforeLinks, field, put, without}
 
 pub before_trans : (a b c : List ℕ) → IsBefore a b → IsBefore b c → IsBefore a c
 before_trans a b c h k = nat_list_cmp_total.trans a b c h k
@@ -38,6 +38,10 @@ same_order a b e = order_of_eq (slice_cmp nat_cmp a b) (is_eq-slice_cmp a b ∙ 
 pub before_all_trans : (a b : List ℕ) (fs : Fields) → IsBefore a b → IsBeforeAll b fs → IsBeforeAll a fs
 before_all_trans a b no_pairs h k = tt
 before_all_trans a b (pair other t fs) h k = (before_trans a b other h k.0, before_all_trans a b fs h k.1)
+
+pub before_links_trans : (a b : List ℕ) (links : Links) → IsBefore a b → IsBeforeLinks b links → IsBeforeLinks a links
+before_links_trans a b unlinked h k = tt
+before_links_trans a b (linked other rid links) h k = (before_trans a b other h k.0, before_links_trans a b links h k.1)
 
 before_all_put_at : (o : Ordering) (first name other : List ℕ) (t u : Tree) (fs gs : Fields) → IsBefore first name → IsBefore first other → IsBeforeAll first fs → IsBeforeAll first gs
     → IsBeforeAll first (match_ordering o (pair name t (pair other u fs)) (pair name t fs) (pair other u gs))
@@ -81,18 +85,3 @@ rising_without name (pair other u fs) h =
 pub field_before_all : (name : List ℕ) (fs : Fields) → IsBeforeAll name fs → field name fs ≡ None
 field_before_all name no_pairs h = refl
 field_before_all name (pair other t fs) h = rw (differs_before name other h.0) (field_before_all name fs h.1)
-
-without_before_all : (name : List ℕ) (fs : Fields) → IsBeforeAll name fs → without name fs ≡ fs
-without_before_all name no_pairs h = refl
-without_before_all name (pair other t fs) h = rw (differs_before name other h.0) (ap (pair other t) (without_before_all name fs h.1))
-
--- a name in a gap isn't there
-pub field_gap : (name : List ℕ) (fs : Fields) (i : ℕ) → IsGap name fs i → field name fs ≡ None
-field_gap name fs zero h = field_before_all name fs h
-field_gap name no_pairs (suc i) h = elim h [ ]
-field_gap name (pair other t fs) (suc i) h = rw (differs_after other name h.0) (field_gap name fs i h.1)
-
-pub without_gap : (name : List ℕ) (fs : Fields) (i : ℕ) → IsGap name fs i → without name fs ≡ fs
-without_gap name fs zero h = without_before_all name fs h
-without_gap name no_pairs (suc i) h = elim h [ ]
-without_gap name (pair other t fs) (suc i) h = rw (differs_after other name h.0) (ap (pair other t) (without_gap name fs i h.1))

@@ -1,7 +1,7 @@
 -- What a change of one field does to the look-up of every name.
 use Rattle.std.specs.Prelude.{◌≡◌, ◌≢◌, ℕ, List, Some, None}
 use Rattle.ori_spec.specs.Value.{Tree, Fields}
-use Rattle.ori_value.specs.Fields.{IsRising, field, put, without}
+use Rattle.ori_spec.specs.Fields.{IsRising, field, put, without}
 
 abbrev pub FindsWhatIsPut : Type 0
 FindsWhatIsPut = (name : List ℕ) (t : Tree) (fs : Fields) → field name (put name t fs) ≡ Some t

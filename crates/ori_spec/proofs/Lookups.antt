@@ -5,8 +5,8 @@ use Rattle.std.proofs.lemmas.Slice.Eq.{bytes_eq-Decides}
 use Rattle.std.specs.Cmp.Lexicographic.{slice_cmp}
 use Rattle.std.specs.Ordering.{match_ordering}
 use Rattle.ori_spec.specs.Value.{Tree, Fields, no_pairs, pair}
-use Rattle.ori_value.specs.Fields.{IsBeforeAll, IsRising, field, put, without}
-use Rattle.ori_value.proofs.Names.{before_of_after, differs_after, same_name, field_before_all}
+use Rattle.ori_spec.specs.Fields.{IsBeforeAll, IsRising, field, put, without}
+use Rattle.ori_spec.proofs.Names.{before_of_after, differs_after, same_name, field_before_all}
 
 differs_at : (b : Bool) (xs ys : List ℕ) → bytes_eq xs ys ≡ b → xs ≢ ys → b ≡ false
 differs_at true xs ys is other = absurd (other ((bytes_eq-Decides xs ys).0 is))
