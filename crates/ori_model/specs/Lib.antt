@@ -1,0 +1,4 @@
+pub mod Data
+pub mod Reading
+pub mod Decisions
+pub mod Refusals

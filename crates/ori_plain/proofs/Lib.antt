@@ -1,0 +1,7 @@
+mod Walks
+mod Renaming
+mod Relinked
+mod Applied
+mod Entries
+mod Refused
+mod TestBases
