@@ -2,3 +2,4 @@ pub mod Data
 pub mod Reading
 pub mod Decisions
 pub mod Refusals
+pub mod Replies

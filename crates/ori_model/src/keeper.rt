@@ -1,6 +1,7 @@
 // What statements commit to.
-ghost use Rattle.std.specs.Prelude.{◌≡◌, ℕ, List, Some, IsSome, option_map, length};
+ghost use Rattle.std.specs.Prelude.{◌≡◌, ℕ, List, Option, Some, IsSome, option_map, length};
 ghost use Rattle.ori_volume.specs.Causes.{Rose};
+ghost use Rattle.ori_volume.specs.Story.{Story};
 ghost use Rattle.ori_spec.specs.Base.{EntryData};
 ghost use Rattle.ori_spec.specs.Apply.{IsFormed};
 ghost use Rattle.ori_spec.specs.Views.{view_of};
@@ -26,7 +27,7 @@ pub trait Keeper: Reader {
     fn commit(&mut self, session: u8, tx: &Tx) -> Result<Done, CommitFault>
         requires { IsFormed (tx_of tx.now) }
         ensures decided { Decides (Self.state self.old) session (tx_of tx.now) (decision_of result) (Self.state self.new) }
-        ensures sound { Self.sound self.old → Self.sound self.new }
+        ensures sound { (first : Option Story) → Self.sound self.old first → Self.sound self.new first }
         ensures lent { Self.lent self.new ≡ Self.lent self.old }
         ensures below { Self.below self.new ≡ Self.below self.old }
         ensures fetched { Self.fetched self.new ≡ Self.fetched self.old }

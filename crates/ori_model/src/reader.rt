@@ -1,6 +1,7 @@
 // What statements read a database through.
 ghost use Rattle.std.specs.Prelude.{◌≡◌, ℕ, Option, IfOk, IfErr, IfSome};
 ghost use Rattle.ori_bytes.specs.declared.causes.Causes.{Causes};
+ghost use Rattle.ori_volume.specs.Story.{Story};
 ghost use Rattle.ori_spec.specs.Apply.{HasOwnFields};
 ghost use Rattle.ori_spec.specs.Views.{BelowData, ViewData};
 ghost use Rattle.ori_spec.specs.Keeping.{StateData};
@@ -25,9 +26,9 @@ pub trait Reader {
 
     ghost below: { Self → BelowData };
 
-    /// A fact that every call keeps: what whoever made the reader knows of its outside, such as what a crash leaves. By it that
-    /// passes through code which reads and commits by the traits alone.
-    ghost sound: { Self → Type 0 } = { λ _. Unit {0} };
+    /// A fact about the outside since an earlier moment, of which a story was told or none, and which every call keeps: what whoever
+    /// made the reader knows, such as what a crash leaves. By it that passes through code which reads and commits by the traits alone.
+    ghost sound: { Self → Option Story → Type 0 } = { λ _ _. Unit {0} };
 
     /// How many records it has given.
     ghost fetched: { Self → ℕ };
@@ -49,7 +50,7 @@ pub trait Reader {
         ensures state { state self.new ≡ state self.old }
         ensures lent { lent self.new ≡ lent self.old }
         ensures below { below self.new ≡ below self.old }
-        ensures sound { sound self.old → sound self.new }
+        ensures sound { (first : Option Story) → sound self.old first → sound self.new first }
         ensures fetched { fetched self.new ≡ fetch_counted result (fetched self.old) }
         ensures causes { causes self.new ≡ read_counted result (causes self.old) };
 

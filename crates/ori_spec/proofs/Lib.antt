@@ -9,8 +9,8 @@ pub mod Proper
 pub mod Renamed
 pub mod Kept
 pub mod HistoryLaws
-mod WorkedRows
-mod Histories
 pub mod OneReading
-mod WorkedRecord
 mod WorkedChanges
+mod WorkedRuns
+mod WorkedRows
+mod WorkedRecord

@@ -9,12 +9,17 @@ use Rattle.std.specs.List.{AllByRecursion, list_all}
 use Rattle.std.proofs.lemmas.Bool.{and_parts, true≢false}
 use Rattle.std.proofs.Common.{ltb-true, ap, is_some}
 use Rattle.ori_spec.specs.Value.{str, no_pairs, pair}
-use Rattle.ori_spec.specs.Base.{RecordData, BaseData, initial_base}
-use Rattle.ori_spec.specs.Apply.{rid_at, apply_tx}
-use Rattle.ori_spec.specs.Statement.{insert_tx, record_at}
+use Rattle.ori_spec.specs.Base.{RecordData, BaseData, TxData, initial_base, create}
+use Rattle.ori_bytes.specs.Varint.{groups_of}
+use Rattle.ori_spec.specs.Apply.{rid_at, temporary, apply_tx, IsFormed}
+use Rattle.ori_spec.specs.Refusing.{refusal}
+use Rattle.ori_spec.specs.Soundness.{IsSoundBase}
+use Rattle.ori_spec.specs.Statement.{record_at}
 use Rattle.ori_spec.specs.Spelling.{IsCounted, Spells}
 use Rattle.ori_spec.specs.Log.{FilesData, ImageData, record_bytes, AreImages, IsLog, IsMade, pages_named, pages_of, last_image}
-use Rattle.ori_spec.specs.Stage.{head_page, record_page, Opens, IsSound, IsPageOf}
+use Rattle.ori_spec.specs.Stage.{head_page, record_page, Opens, IsPageOf}
+use Rattle.ori_spec.proofs.Kept.{apply_sound}
+use Rattle.ori_spec.proofs.HistoryLaws.{initial_sound}
 
 abbrev ann : RecordData
 ann = record { rid = rid_at 1 0; version = 1; class = codes "V"; fields = pair (codes "name") (str (codes "Ann")) no_pairs }
@@ -84,15 +89,21 @@ first = refl
 pages : length (pages_of files (images ∷ [])) ≡ 2
 pages = refl
 
-abbrev base : BaseData
-base = apply_tx initial_base (insert_tx (codes "name") (codes "Ann"))
+abbrev tx : TxData
+tx = record { changes = create (temporary 0) (codes "V") (pair (codes "name") (str (codes "Ann")) no_pairs) ∷ []; made = 1 }
 
-sound : IsSound base
-sound = record {
-  each = (record { class = refl; place = (0, omega arith, refl); version = (omega arith, omega arith); spelled = (ann_bytes, spells-ann, omega arith) }, tt);
-  rising = tt;
-  next = (omega arith, (omega arith, tt));
-}
+abbrev base : BaseData
+base = apply_tx initial_base tx
+
+is-formed : IsFormed tx
+is-formed = record { one_each = (tt, tt); in_order = (0, omega arith, omega arith, refl, tt); own = ((omega arith, refl, omega arith, refl, tt), tt) }
+
+accepted : refusal initial_base tx ≡ None
+unfolding groups_of
+accepted = refl
+
+sound : IsSoundBase base
+sound = apply_sound initial_base tx initial_sound is-formed accepted
 
 is-page : (p : ℕ) → p < 1 → IsPageOf (get_or (pages_of files (images ∷ [])) (p + 1) []) (record_at base.stored (rid_at 1 p))
 is-page zero below = (ann_bytes, spells-ann, refl)

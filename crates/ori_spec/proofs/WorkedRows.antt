@@ -1,5 +1,5 @@
 -- The definitions computed on worked examples.
-use Rattle.std.specs.Prelude.{◌≡◌, ℕ, ◌^◌, ◌<◌, ◌≤◌, negsuc, zero, ◌-◌, suc, ◌||◌, Bool, nat_eq, decimal, true, false, List, [], ◌∷◌, ◌++◌, length, take, replicate, slice_index, codes, Some, None, refl}
+use Rattle.std.specs.Prelude.{◌≡◌, ℕ, ◌^◌, ◌<◌, ◌≤◌, pos, negsuc, zero, ◌-◌, suc, ◌||◌, Bool, nat_eq, decimal, true, false, List, [], ◌∷◌, ◌++◌, length, take, replicate, slice_index, codes, Some, None, refl}
 use Rattle.std.specs.Fmt.{digits}
 use Rattle.std.specs.List.{starts_with}
 use Rattle.std.proofs.lemmas.Slice.Eq.{starts_is}
@@ -13,15 +13,16 @@ use mathlib.Core.Logic.{inl, inr}
 use lib.Utf8.{encode}
 use lib.Signed.{le_z_yes}
 use Rattle.json.specs.Print.{escape_byte}
-use Rattle.ori_spec.specs.Value.{null, integer, str, binary, embedded, embedded_list, embedded_map, link_list, link_set, link_map, no_trees, more_trees, no_pairs, pair, unlinked, linked, nesting}
+use Rattle.ori_spec.specs.Value.{null, integer, long, link, str, binary, embedded, embedded_list, embedded_map, link_list, link_set, link_map, no_trees, more_trees, no_pairs, pair, unlinked, linked, nesting}
 use Rattle.serde_json.specs.Written.{compact_text}
 use Rattle.ori_spec.specs.Json.{row_json, json_of}
-use Rattle.ori_spec.specs.Base.{RecordData, into, initial_base, create}
+use Rattle.ori_spec.specs.Base.{RecordData, TxData, into, initial_base, create}
 use Rattle.ori_spec.specs.Apply.{rid_at, temporary, fresh, apply_tx, relinked, full_cluster}
-use Rattle.ori_spec.specs.Statement.{insert_tx, is_keyword, is_reserved, is_field_name, rows_at, whole_row, IsLink, Means, pending}
+use Rattle.ori_spec.specs.Statement.{is_keyword, is_reserved, is_field_name, rows_at, whole_row, IsLink, IsStatement, inserts, updates, deletes_vertex}
 use Rattle.ori_spec.specs.Reply.{reply_text, answer_text, to_step, granted, refused, unbuilt}
 use Rattle.ori_spec.specs.Log.{record_bytes}
-use Rattle.ori_spec.specs.Stage.{head_page, Opens, IsSound}
+use Rattle.ori_spec.specs.Stage.{head_page, Opens}
+use Rattle.ori_spec.proofs.HistoryLaws.{initial_sound}
 use Rattle.ori_spec.specs.Line.{Reads, Says, LineData, statement, tries, step, flush, bag, check, settle, checkpoint, reopen, history, StepData, IsStepText, at_end, at_bad_line, at_limit, is_try, is_too_long, body_of, IsTaken, Gives}
 
 abbrev ann : RecordData
@@ -42,17 +43,16 @@ reply-unbuilt = refl
 step-unbuilt : answer_text (to_step unbuilt) ≡ codes "! ERR Unbuilt\n"
 step-unbuilt = refl
 
-tx : insert_tx (codes "name") (codes "Ann")
-    ≡ record { changes = create (record { cluster = negsuc 0; position = negsuc 1 }) (codes "V") (pair (codes "name") (str (codes "Ann")) no_pairs) ∷ []; made = 1 }
-tx = refl
+abbrev tx : TxData
+tx = record { changes = create (temporary 0) (codes "V") (pair (codes "name") (str (codes "Ann")) no_pairs) ∷ []; made = 1 }
 
-fresh-ann : fresh initial_base (insert_tx (codes "name") (codes "Ann")) ≡ rid_at 1 0 ∷ []
+fresh-ann : fresh initial_base tx ≡ rid_at 1 0 ∷ []
 fresh-ann = refl
 
-base : apply_tx initial_base (insert_tx (codes "name") (codes "Ann")) ≡ record initial_base { stored = ann ∷ []; next = 1 ∷ 0 ∷ [] }
+base : apply_tx initial_base tx ≡ record initial_base { stored = ann ∷ []; next = 1 ∷ 0 ∷ [] }
 base = refl
 
-missing : rows_at initial_base (rid_at 1 5) ≡ []
+missing : rows_at initial_base.stored (rid_at 1 5) ≡ []
 missing = refl
 
 set-is-keyword : is_keyword (codes "set") ≡ true
@@ -126,8 +126,21 @@ zeros-in-link = (codes "-0", codes "007", refl, inr (codes "0", 0, refl, (omega 
 least-link : IsLink (codes "#-32768:-9223372036854775808") (record { cluster = negsuc 32767; position = negsuc 9223372036854775807 })
 least-link = (codes "-32768", codes "-9223372036854775808", refl, inr (codes "32768", 32768, refl, (omega arith, refl, refl), refl), (le_z_yes tt, le_z_yes tt), inr (codes "9223372036854775808", 9223372036854775808, refl, (omega arith, refl, refl), refl), (le_z_yes tt, le_z_yes tt))
 
-means-insert : Means initial_base (codes "INSERT INTO V SET name = 'Ann'") (pending (insert_tx (codes "name") (codes "Ann")))
-means-insert = (codes "name", codes "Ann", (refl, refl, refl), refl)
+says-insert : IsStatement (codes "INSERT INTO V SET name = 'Ann'") (inserts (codes "name") (str (codes "Ann")))
+says-insert = (codes "name = 'Ann'", (codes "'Ann'", refl, inl (codes "Ann", refl, refl, refl), refl), refl)
+
+-- a number is the least kind that has it
+says-number : IsStatement (codes "UPDATE #1:5 SET n = 0042") (updates (rid_at 1 5) (codes "n") (integer (pos 42)))
+says-number = (codes "#1:5", codes "n = 0042", is-link, (codes "0042", refl, inr (inl (42, (omega arith, refl, refl), omega arith, refl)), refl), refl)
+
+says-long : IsStatement (codes "INSERT INTO V SET n = 2147483648") (inserts (codes "n") (long (pos 2147483648)))
+says-long = (codes "n = 2147483648", (codes "2147483648", refl, inr (inl (2147483648, (omega arith, refl, refl), omega arith, refl)), refl), refl)
+
+says-link : IsStatement (codes "INSERT INTO V SET a = #1:5") (inserts (codes "a") (link (rid_at 1 5)))
+says-link = (codes "a = #1:5", (codes "#1:5", refl, inr (inr (rid_at 1 5, is-link, refl)), refl), refl)
+
+says-delete : IsStatement (codes "DELETE VERTEX #1:5") (deletes_vertex (rid_at 1 5))
+says-delete = (codes "#1:5", is-link, refl)
 
 comment : Reads 0 (codes "-- a\n" ∷ codes "\n" ∷ codes "\r\n" ∷ []) [] at_end
 comment = inl (record { short = refl; within = omega arith }, refl, inl (record { short = refl; within = omega arith }, refl, inl (record { short = refl; within = omega arith }, refl, (refl, refl))))
@@ -283,15 +296,12 @@ no-input = record { split = ([], [], record { whole = refl; each = tt; partial =
 
 -- ---- volumes
 
-sound-initial : IsSound initial_base
-sound-initial = record { each = tt; rising = tt; next = (omega arith, (omega arith, tt)) }
-
 empty-opens : Opens (record { master = []; log_a = []; log_b = []; pages = [] }) initial_base
-empty-opens = record { sound = sound-initial; stands = inl (record { master = refl; log_a = omega arith; log_b = omega arith; pages = refl }, refl) }
+empty-opens = record { sound = initial_sound; stands = inl (record { master = refl; log_a = omega arith; log_b = omega arith; pages = refl }, refl) }
 
 made-opens : Opens (record { master = 0 ∷ []; log_a = 0 ∷ []; log_b = 0 ∷ []; pages = [] }) initial_base
 made-opens = record {
-  sound = sound-initial;
+  sound = initial_sound;
   stands = inr (
     [],
     record {

@@ -280,22 +280,3 @@ full_cluster cluster (n ∷ ns) = if nat_lt MAX_POSITIONS n then Some cluster el
 -- the cluster that has no room for a transaction's new records, where there is one
 abbrev pub cluster_without_room : BaseData → TxData → Option ℕ
 cluster_without_room base tx = full_cluster 1 (next_after base.schema.classes base.next tx.changes)
-
--- fields that hold text alone
-abbrev pub HasTextAlone : Fields → Type 0
-HasTextAlone no_pairs = ⊤
-HasTextAlone (pair name (str s) fs) = HasTextAlone fs
-HasTextAlone (pair name t fs) = ⊥
-
--- one new record of class V, with text in its fields
-abbrev pub IsInsertion : List ChangeData → Type 0
-IsInsertion (create temp class fields ∷ []) = (class ≡ codes "V") × HasTextAlone fields
-IsInsertion cs = ⊥
-
--- At each place the transaction is formed, the base so far has room for it, and its new records have the identifiers that are
--- next there. What statements commit so far is one new record, so that nothing else can be refused, and no schema changes.
-abbrev pub IsLegal : BaseData → List EntryData → Type 0
-IsLegal base [] = ⊤
-IsLegal base (commit session tx rids ∷ es) =
-    IsFormed tx × IsInsertion tx.changes × (cluster_without_room base tx ≡ None) × (rids ≡ fresh base tx) × IsLegal (apply_tx base tx) es
-IsLegal base (define session definition ∷ es) = ⊥

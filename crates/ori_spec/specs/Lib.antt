@@ -19,3 +19,4 @@ pub mod Soundness
 pub mod Histories
 pub mod Keeping
 pub mod Staging
+pub mod Answer

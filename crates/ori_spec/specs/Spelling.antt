@@ -1,4 +1,4 @@
--- How records are spelled as bytes: the grammar by cases on the fields, in its part on text values. Numbers are big-endian, and
+-- How records are spelled as bytes: the grammar by cases on the fields, in its part on text, whole numbers and links. Numbers are big-endian, and
 -- lengths are varints.
 use Rattle.std.specs.Prelude.{◌≡◌, ℕ, ◌+◌, ◌^◌, ◌<◌, pos, false, List, [], ◌∷◌, ◌++◌, length, IsTrue, ⊤}
 use Rattle.std.specs.Ordering.{nat_cmp, is_lt}
@@ -9,6 +9,7 @@ use Rattle.ori_bytes.specs.Varint.{IsVarint}
 use Rattle.ori_spec.specs.Value.{Tree, Fields, null, boolean, integer, short, long, datetime, str, binary, embedded, embedded_list, embedded_map, link, link_list, link_set, link_map, byte, no_pairs, pair}
 use Rattle.ori_spec.specs.Base.{RecordData}
 use Rattle.ori_spec.specs.Apply.{is_bag_name}
+use Rattle.ori_spec.specs.Statement.{IsSigned}
 
 -- the length of a text or a name as a varint, and its bytes
 abbrev pub IsCounted : List ℕ → List ℕ → Type 0
@@ -33,20 +34,22 @@ kind_number (link_set rids) = 15
 kind_number (link_map links) = 16
 kind_number (byte z) = 17
 
--- the bytes of a value. Only text is written yet.
+-- The bytes of a value. Only text, whole numbers and links are written yet.
 abbrev pub IsValue : List ℕ → Tree → Type 0
 IsValue bytes null = ⊥
 IsValue bytes (boolean b) = ⊥
-IsValue bytes (integer z) = ⊥
+IsValue bytes (integer z) = IsVarint bytes z × IsSigned 32 z
 IsValue bytes (short z) = ⊥
-IsValue bytes (long z) = ⊥
+IsValue bytes (long z) = IsVarint bytes z × IsSigned 64 z
 IsValue bytes (datetime z) = ⊥
 IsValue bytes (str s) = IsCounted bytes s × IsUtf8 s
 IsValue bytes (binary s) = ⊥
 IsValue bytes (embedded class fs) = ⊥
 IsValue bytes (embedded_list items) = ⊥
 IsValue bytes (embedded_map fs) = ⊥
-IsValue bytes (link rid) = ⊥
+IsValue bytes (link rid) =
+    (cluster : List ℕ) × (position : List ℕ) × IsVarint cluster rid.cluster × IsVarint position rid.position × IsSigned 16 rid.cluster × IsSigned 64 rid.position
+    × (bytes ≡ cluster ++ position)
 IsValue bytes (link_list rids) = ⊥
 IsValue bytes (link_set rids) = ⊥
 IsValue bytes (link_map links) = ⊥

@@ -6,6 +6,7 @@ use Rattle.ori_bytes.specs.declared.limits.TheConstants.{PAGE_BYTES, MAX_RECORD_
 use Rattle.ori_spec.specs.Base.{RecordData, BaseData, initial_base, EntryData}
 use Rattle.ori_spec.specs.Apply.{comes_before, rid_at, replay, apply}
 use Rattle.ori_spec.specs.Statement.{record_at}
+use Rattle.ori_spec.specs.Soundness.{IsSoundBase}
 use Rattle.ori_spec.specs.Spelling.{Spells}
 use Rattle.ori_spec.specs.Log.{ImageData, FilesData, IsUnmade, IsMade, pages_of}
 
@@ -41,26 +42,6 @@ pub record StandFor (pages : List (List ℕ)) (base : BaseData) : Type 0 where
   pub head : get_or pages 0 [] ≡ head_page (get_or base.next 0 0 + 1)
   pub each : (p : ℕ) → p < get_or base.next 0 0 → IsPageOf (get_or pages (p + 1) []) (record_at base.stored (rid_at 1 p))
 
--- ---- sound bases
-
--- the records rise in row order
-abbrev pub AreRising : List RecordData → Type 0
-AreRising [] = ⊤
-AreRising (r ∷ []) = ⊤
-AreRising (r ∷ s ∷ ss) = IsTrue (comes_before r.rid s.rid) × AreRising (s ∷ ss)
-
--- a record of class V at a position that was given, whose spelling has room in a page
-pub record IsSoundRecord (next : ℕ) (r : RecordData) : Type 0 where
-  pub class : r.class ≡ codes "V"
-  pub place : (p : ℕ) × (p < next) × (r.rid ≡ rid_at 1 p)
-  pub version : (0 < r.version) × (r.version < 2 ^ 32)
-  pub spelled : (bytes : List ℕ) × Spells bytes r × (length bytes ≤ MAX_RECORD_BYTES)
-
-pub record IsSound (base : BaseData) : Type 0 where
-  pub each : AllByRecursion (IsSoundRecord (get_or base.next 0 0)) base.stored
-  pub rising : AreRising base.stored
-  pub next : AllByRecursion (λ n. n ≤ MAX_POSITIONS) base.next
-
 -- ---- what files open to
 
 pub record StandsMade (files : FilesData) (records : List (List ImageData)) (base : BaseData) : Type 0 where
@@ -73,7 +54,7 @@ IsDatabase files = IsUnmade files ⊎ ((records : List (List ImageData)) × (bas
 
 -- The files are of the form and stand for this base. Files before a volume is made stand for the initial one.
 pub record Opens (files : FilesData) (base : BaseData) : Type 0 where
-  pub sound : IsSound base
+  pub sound : IsSoundBase base
   pub stands : (IsUnmade files × (base ≡ initial_base)) ⊎ ((records : List (List ImageData)) × StandsMade files records base)
 
 -- The files open to the base after the first m entries of the history, for an m from k on; or to that with an entry after it

@@ -1,11 +1,12 @@
--- The statements that can be written so far, as a grammar of their texts, and what each means over a base.
+-- The statements that can be written so far, as a grammar of their texts, and records as rows.
 use Rattle.std.specs.Prelude.{◌≡◌, ◌⊎◌, ℕ, ◌+◌, ◌-◌, ◌*◌, ◌^◌, ◌<◌, ℤ, pos, neg_ℤ, ◌≤ℤ◌, Bool, false, not, ◌&&◌, ◌||◌, ◌==◌, nat_lt, nat_le, if◌then◌else◌, List, [], ◌∷◌, ◌++◌, length, map, codes, IsTrue, Option, Some, None}
 use Rattle.std.specs.List.{list_all, list_any}
 use Rattle.ori_bytes.specs.declared.rid.Rid.{Rid}
 use Rattle.ori_bytes.specs.declared.limits.TheConstants.{MAX_NAME_BYTES}
-use Rattle.ori_spec.specs.Value.{Tree, integer, long, str, link, Fields, no_pairs, pair}
-use Rattle.ori_spec.specs.Base.{RecordData, BaseData, create, TxData}
-use Rattle.ori_spec.specs.Apply.{same_bytes, same_rid, is_bag_name, temporary}
+use Rattle.ori_spec.specs.Value.{Tree, integer, long, str, link, Fields}
+use Rattle.ori_spec.specs.Base.{RecordData}
+use Rattle.ori_spec.specs.Apply.{same_bytes, same_rid, is_bag_name}
+use Rattle.ori_spec.specs.Fields.{put}
 
 -- ---- words and names
 
@@ -74,48 +75,58 @@ IsLink text rid = (cluster : List ℕ) × (position : List ℕ) × (text ≡ 35 
 abbrev pub is_plain : List ℕ → Bool
 is_plain text = list_all (λ b. not (b == 39 || b == 92)) text
 
--- INSERT INTO V SET <name> = '<value>'
-abbrev pub IsInsert : List ℕ → List ℕ → List ℕ → Type 0
-IsInsert text name value = IsTrue (is_field_name name) × IsTrue (is_plain value)
-    × (text ≡ codes "INSERT INTO V SET " ++ name ++ codes " = '" ++ value ++ codes "'")
+-- a whole number that isn't negative, as the least kind that has it
+abbrev pub whole_number : ℕ → Tree
+whole_number n = if nat_lt n (2 ^ 31) then integer (pos n) else long (pos n)
 
--- SELECT FROM <link>
-abbrev pub IsSelect : List ℕ → Rid → Type 0
-IsSelect text rid = (link_text : List ℕ) × IsLink link_text rid × (text ≡ codes "SELECT FROM " ++ link_text)
+-- a value as statements write it: text in single quotes, decimal digits with a value below 2^63, or a link
+abbrev pub IsLiteral : List ℕ → Tree → Type 0
+IsLiteral text value =
+    ((s : List ℕ) × IsTrue (is_plain s) × (text ≡ 39 ∷ s ++ 39 ∷ []) × (value ≡ str s))
+    ⊎ ((n : ℕ) × IsDigits text n × (n < 2 ^ 63) × (value ≡ whole_number n))
+    ⊎ ((rid : Rid) × IsLink text rid × (value ≡ link rid))
 
--- ---- what they mean
+-- what a statement asks for
+pub data StatementData : Type 0 where
+  inserts : List ℕ → Tree → StatementData
+  selects : Rid → StatementData
+  updates : Rid → List ℕ → Tree → StatementData
+  deletes_vertex : Rid → StatementData
+  begins : StatementData
+  commits : StatementData
+  rolls_back : StatementData
+
+-- a name and a value, as they are set
+abbrev pub IsSetting : List ℕ → List ℕ → Tree → Type 0
+IsSetting text name value = (literal : List ℕ) × IsTrue (is_field_name name) × IsLiteral literal value × (text ≡ name ++ codes " = " ++ literal)
+
+-- INSERT INTO V SET <name> = <value>; SELECT FROM <link>; UPDATE <link> SET <name> = <value>; DELETE VERTEX <link>; BEGIN; COMMIT;
+-- ROLLBACK
+abbrev pub IsStatement : List ℕ → StatementData → Type 0
+IsStatement text (inserts name value) = (setting : List ℕ) × IsSetting setting name value × (text ≡ codes "INSERT INTO V SET " ++ setting)
+IsStatement text (selects rid) = (link_text : List ℕ) × IsLink link_text rid × (text ≡ codes "SELECT FROM " ++ link_text)
+IsStatement text (updates rid name value) =
+    (link_text : List ℕ) × (setting : List ℕ) × IsLink link_text rid × IsSetting setting name value
+    × (text ≡ codes "UPDATE " ++ link_text ++ codes " SET " ++ setting)
+IsStatement text (deletes_vertex rid) = (link_text : List ℕ) × IsLink link_text rid × (text ≡ codes "DELETE VERTEX " ++ link_text)
+IsStatement text begins = text ≡ codes "BEGIN"
+IsStatement text commits = text ≡ codes "COMMIT"
+IsStatement text rolls_back = text ≡ codes "ROLLBACK"
+
+-- ---- records as rows
 
 abbrev pub record_at : List RecordData → Rid → Option RecordData
 record_at [] rid = None
 record_at (r ∷ rs) rid = if same_rid r.rid rid then Some r else record_at rs rid
 
--- a whole number that isn't negative, as the least kind that has it
-abbrev pub whole_number : ℕ → Tree
-whole_number n = if nat_lt n (2 ^ 31) then integer (pos n) else long (pos n)
-
--- a record as a row: its class, its identifier, its version and its fields, in byte order of the names
+-- a record as a row: its fields, and its class, its identifier and its version among them, in byte order of the names
 abbrev pub whole_row : RecordData → Fields
-whole_row r = pair (codes "@class") (str r.class) (pair (codes "@rid") (link r.rid) (pair (codes "@version") (whole_number r.version) r.fields))
+whole_row r = put (codes "@class") (str r.class) (put (codes "@rid") (link r.rid) (put (codes "@version") (whole_number r.version) r.fields))
 
 abbrev pub rows_of : Option RecordData → List Fields
 rows_of None = []
 rows_of (Some r) = whole_row r ∷ []
 
 -- the row of the record with an identifier, where there is one
-abbrev pub rows_at : BaseData → Rid → List Fields
-rows_at base rid = rows_of (record_at base.stored rid)
-
--- the transaction of an INSERT: one new record of class V
-abbrev pub insert_tx : List ℕ → List ℕ → TxData
-insert_tx name value = record { changes = create (temporary 0) (codes "V") (pair name (str value) no_pairs) ∷ []; made = 1 }
-
--- A statement is answered from the base alone, with these rows; or it has something to commit; or it can't be written yet.
-pub data MeaningData : Type 0 where
-  not_built : MeaningData
-  answered : List Fields → MeaningData
-  pending : TxData → MeaningData
-
-abbrev pub Means : BaseData → List ℕ → MeaningData → Type 0
-Means base text not_built = ((name value : List ℕ) → IsInsert text name value → ⊥) × ((rid : Rid) → IsSelect text rid → ⊥)
-Means base text (answered rows) = (rid : Rid) × IsSelect text rid × (rows ≡ rows_at base rid)
-Means base text (pending tx) = (name : List ℕ) × (value : List ℕ) × IsInsert text name value × (tx ≡ insert_tx name value)
+abbrev pub rows_at : List RecordData → Rid → List Fields
+rows_at records rid = rows_of (record_at records rid)

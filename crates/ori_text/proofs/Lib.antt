@@ -10,3 +10,4 @@ mod Buffers
 mod Readings
 mod StepLemmas
 mod Promptness
+mod JsonLists

@@ -4,3 +4,4 @@ pub mod LineReading
 pub mod LineForms
 pub mod LineSteps
 pub mod Printing
+pub mod Fronts

@@ -4,11 +4,9 @@ use Rattle.std.specs.List.{AllByRecursion}
 use Rattle.ori_volume.specs.Causes.{Rose}
 use Rattle.ori_volume.specs.Streams.{Took}
 use Rattle.ori_bytes.specs.declared.limits.TheConstants.{MAX_INPUT_BYTES}
-use Rattle.ori_spec.specs.Base as plain
 use Rattle.ori_spec.specs.Line.{StepData, LineData, StopData, at_end, at_bad_line, at_limit, is_too_long}
 use Rattle.ori_spec.specs.Line as plain_line
-use Rattle.ori_text.specs.declared.line.Dir.{Dir}
-use Rattle.ori_text.specs.declared.line.Dir.TheVariants.{Out, Into}
+use Rattle.ori_model.specs.Data.{dir_of}
 use Rattle.ori_text.specs.declared.line.StepLine.{StepLine}
 use Rattle.ori_text.specs.declared.line.StepLine.TheVariants.{Flush, Settle, Checkpoint, Reopen, History, Bag, Check}
 use Rattle.ori_text.specs.declared.line.Line.{Line}
@@ -16,10 +14,6 @@ use Rattle.ori_text.specs.declared.line.Line.TheVariants as lines
 use Rattle.ori_text.specs.declared.line.LineFault.{LineFault}
 use Rattle.ori_text.specs.declared.line.LineFault.TheVariants as faults
 use Rattle.ori_text.specs.Lines.{Reading, Advances}
-
-abbrev pub dir_of : Dir → plain.DirData
-dir_of Out = plain.out
-dir_of Into = plain.into
 
 abbrev pub step_of : StepLine → StepData
 step_of (Flush part) = plain_line.flush part

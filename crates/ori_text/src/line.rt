@@ -5,14 +5,16 @@ ghost use Rattle.ori_volume.specs.Streams.{Took};
 ghost use Rattle.ori_bytes.specs.declared.rid.Rid.{Rid};
 ghost use Rattle.ori_spec.specs.Base.{DirData};
 ghost use Rattle.ori_spec.specs.Line.{is_try, body_of, without_last, is_too_long, is_skipped, dir_text, bag, IsSession, IsStepText};
+ghost use Rattle.ori_model.specs.Data.{dir_of};
 ghost use Rattle.ori_text.specs.Lines.{Reading};
-ghost use Rattle.ori_text.specs.LineReading.{dir_of, IsAtEnd, IsNext};
+ghost use Rattle.ori_text.specs.LineReading.{IsAtEnd, IsNext};
 ghost use Rattle.ori_text.specs.LineSteps.{IsJudged, IsFront, HasFront, HasNoFront, IsTaking, IsRead, IsStep, MayGoOn, IsPrompt, IsPromptStep};
 ghost use Rattle.ori_text.specs.LineForms.{IsSaidBy, IsStepRead, IsBareStep, AsksTries};
 
 use crate::pieces::{after, is_word, read_link, split_at_space};
 use ori_bytes::limits::{MAX_INPUT_BYTES, MAX_LINE_BYTES, MAX_SESSIONS, MAX_TRIES, PARTITIONS};
 use ori_bytes::{NoMemory, Rid, Text};
+use ori_model::Dir;
 use ori_volume::{Failed, Source};
 use std::alloc::Global;
 use std::marker::Model;
@@ -23,15 +25,6 @@ const CHUNK_BYTES: usize = 4096;
 
 /// The reader's buffer: a line that has no end yet and isn't too long, and a chunk.
 const BUFFER_BYTES: usize = MAX_LINE_BYTES + 2 + CHUNK_BYTES;
-
-/// The end of its edges at which a vertex has a bag.
-#[derive(Clone, Copy, Debug, PartialEq, Eq)]
-pub enum Dir {
-    /// Edges that leave the vertex.
-    Out,
-    /// Edges that come to it.
-    Into,
-}
 
 /// A step of the store, `! <step>`.
 #[derive(Debug, Drop)]

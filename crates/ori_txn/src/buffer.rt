@@ -7,7 +7,7 @@ ghost use Rattle.ori_model.specs.Data.{change_of, tx_of};
 ghost use Rattle.ori_txn.specs.Places.{given_by_all};
 
 use crate::merge::put_all;
-use crate::overlay::Overlay;
+use crate::overlay::{Overlay, placed_of};
 use indexmap::IndexSet;
 use ori_bytes::{NoMemory, Rid};
 use ori_model::{Change, ChangeList, Tx};
@@ -111,6 +111,14 @@ impl TxBuffer {
         ensures formed { IsFormed (tx_of self.now) }
     {
         &self.tx
+    }
+
+    /// The change of an identifier.
+    pub fn change_of(&self, rid: Rid) -> Option<&Change>
+        ensures value { option_map (λ c. change_of c.now) result ≡ change_at (map change_of self.now.changes) rid }
+        ensures formed { IsFormed (tx_of self.now) }
+    {
+        placed_of(self.tx.changes.as_slice(), &self.places, rid)
     }
 
     /// The changes, to be laid over what a reader shows.

@@ -66,8 +66,8 @@ fn first_of(changes: &[Change], rid: Rid) -> Option<&Change>
     None
 }
 
-// The change of an identifier, by its place.
-fn placed_of<'a>(changes: &'a [Change], places: &IndexSet<Rid>, rid: Rid) -> Option<&'a Change>
+/// The change of an identifier, by its place.
+pub fn placed_of<'a>(changes: &'a [Change], places: &IndexSet<Rid>, rid: Rid) -> Option<&'a Change>
     requires { AreBeside changes.now places.now.keys }
     ensures { option_map (λ c. change_of c.now) result ≡ change_at (map change_of changes.now) rid }
 {

@@ -1,5 +1,6 @@
 // A database as an open transaction would have it.
-ghost use Rattle.std.specs.Prelude.{◌≡◌, Some, None, IfOk, IfErr, IfSome, option_map};
+ghost use Rattle.ori_volume.specs.Story.{Story};
+ghost use Rattle.std.specs.Prelude.{◌≡◌, Option, Some, None, IfOk, IfErr, IfSome, option_map};
 ghost use Rattle.ori_spec.specs.Apply.{HasOwnFields, IsFormed};
 ghost use Rattle.ori_spec.specs.Statement.{record_at};
 ghost use Rattle.ori_spec.specs.Staging.{laid_over};
@@ -31,7 +32,7 @@ impl<'a, R: Reader> TxReader<'a, R> {
         ensures state { ⟦<TxReader<'a, R> as Reader>⟧.state result ≡ R.state reader.old }
         ensures fetched { ⟦<TxReader<'a, R> as Reader>⟧.fetched result ≡ R.fetched reader.old }
         ensures causes { ⟦<TxReader<'a, R> as Reader>⟧.causes result ≡ R.causes reader.old }
-        ensures sound { R.sound reader.old → ⟦<TxReader<'a, R> as Reader>⟧.sound result }
+        ensures sound { (first : Option Story) → R.sound reader.old first → ⟦<TxReader<'a, R> as Reader>⟧.sound result first }
         ensures same_reference { result.reader.ghost_name ≡ reader.entry.ghost_name }
         ensures reader { result.reader.now ≡ reader.old }
     {
@@ -49,7 +50,7 @@ impl<'a, R: Reader> TxReader<'a, R> {
         ensures state { ⟦<TxReader<'a, R> as Reader>⟧.state result ≡ R.state reader.old }
         ensures fetched { ⟦<TxReader<'a, R> as Reader>⟧.fetched result ≡ R.fetched reader.old }
         ensures causes { ⟦<TxReader<'a, R> as Reader>⟧.causes result ≡ R.causes reader.old }
-        ensures sound { R.sound reader.old → ⟦<TxReader<'a, R> as Reader>⟧.sound result }
+        ensures sound { (first : Option Story) → R.sound reader.old first → ⟦<TxReader<'a, R> as Reader>⟧.sound result first }
         ensures same_reference { result.reader.ghost_name ≡ reader.entry.ghost_name }
         ensures reader { result.reader.now ≡ reader.old }
     {
@@ -171,7 +172,7 @@ fn fetch_changed<R: Reader>(
 ) -> Result<Option<Stored>, ReadFault>
     requires { IsFor rid (change_of change.now) }
     ensures own { IfOk result (λ o. IfSome o (λ stored. (stored.rid ≡ rid) × HasOwnFields stored.fields)) }
-    ensures sound { R.sound reader.old → R.sound reader.new }
+    ensures sound { (first : Option Story) → R.sound reader.old first → R.sound reader.new first }
     ensures found { IfOk result (λ o. IfSome (R.view reader.old) (λ shown.
         option_map record_of o ≡ laid_over (Some (change_of change.now)) (record_at shown.records rid))) }
     ensures fault { IfErr result (MayFail (R.view reader.old)) }
@@ -198,7 +199,7 @@ fn fetch_with<R: Reader>(
 ) -> Result<Option<Stored>, ReadFault>
     requires { IfSome (option_map (λ c. change_of c.now) change) (IsFor rid) }
     ensures own { IfOk result (λ o. IfSome o (λ stored. (stored.rid ≡ rid) × HasOwnFields stored.fields)) }
-    ensures sound { R.sound reader.old → R.sound reader.new }
+    ensures sound { (first : Option Story) → R.sound reader.old first → R.sound reader.new first }
     ensures found { IfOk result (λ o. IfSome (R.view reader.old) (λ shown.
         option_map record_of o ≡ laid_over (option_map (λ c. change_of c.now) change.entry) (record_at shown.records rid))) }
     ensures fault { IfErr result (MayFail (R.view reader.old)) }

@@ -1,5 +1,6 @@
 // Transactions staged by hand, and read over a database of two records.
-ghost use Rattle.std.specs.Prelude.{◌≡◌, ◌∷◌, [], IfOk, IfSome, codes};
+ghost use Rattle.ori_volume.specs.Story.{Story};
+ghost use Rattle.std.specs.Prelude.{◌≡◌, ◌∷◌, [], Option, IfOk, IfSome, codes};
 ghost use Rattle.ori_spec.specs.Base.{create, update, delete, touch};
 ghost use Rattle.ori_spec.specs.Value.{Fields, integer, no_pairs, pair};
 ghost use Rattle.ori_spec.specs.Apply.{HasOwnFields, IsFormed, temporary};
@@ -108,7 +109,7 @@ impl Reader for Shelf {
 // A read that knows its reader by the trait alone.
 fn fetch_from<R: Reader>(reader: &mut R, rid: Rid) -> Result<Option<Stored>, ReadFault>
     ensures own { IfOk result (λ o. IfSome o (λ stored. (stored.rid ≡ rid) × HasOwnFields stored.fields)) }
-    ensures sound { R.sound reader.old → R.sound reader.new }
+    ensures sound { (first : Option Story) → R.sound reader.old first → R.sound reader.new first }
     ensures causes { R.causes reader.new ≡ read_counted result (R.causes reader.old) }
     ensures found { IfOk result (IsFetched (R.view reader.old) rid) }
     ensures view { R.view reader.new ≡ R.view reader.old }
@@ -122,7 +123,7 @@ fn fetch_from<R: Reader>(reader: &mut R, rid: Rid) -> Result<Option<Stored>, Rea
 // A read through a buffer over any reader, which is as before after it.
 fn look<R: Reader>(reader: &mut R, buffer: &TxBuffer, rid: Rid) -> Result<Option<Stored>, ReadFault>
     ensures own { IfOk result (λ o. IfSome o (λ stored. (stored.rid ≡ rid) × HasOwnFields stored.fields)) }
-    ensures sound { R.sound reader.old → R.sound reader.new }
+    ensures sound { (first : Option Story) → R.sound reader.old first → R.sound reader.new first }
     ensures causes { R.causes reader.new ≡ read_counted result (R.causes reader.old) }
     ensures found { IfOk result (IsFetched (shown_through (R.view reader.old) (tx_of buffer.now)) rid) }
     ensures view { R.view reader.new ≡ R.view reader.old }
@@ -138,7 +139,7 @@ fn look<R: Reader>(reader: &mut R, buffer: &TxBuffer, rid: Rid) -> Result<Option
 fn look_through<R: Reader>(reader: &mut R, tx: &Tx, rid: Rid) -> Result<Option<Stored>, ReadFault>
     requires { IsFormed (tx_of tx.now) }
     ensures own { IfOk result (λ o. IfSome o (λ stored. (stored.rid ≡ rid) × HasOwnFields stored.fields)) }
-    ensures sound { R.sound reader.old → R.sound reader.new }
+    ensures sound { (first : Option Story) → R.sound reader.old first → R.sound reader.new first }
     ensures causes { R.causes reader.new ≡ read_counted result (R.causes reader.old) }
     ensures found { IfOk result (IsFetched (shown_through (R.view reader.old) (tx_of tx.now)) rid) }
     ensures view { R.view reader.new ≡ R.view reader.old }

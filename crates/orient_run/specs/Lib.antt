@@ -1,17 +1,1 @@
-pub mod Records
-pub mod Counting
-pub mod Reading
-pub mod Pages
-pub mod Fields
-pub mod Replies
-pub mod Statements
-pub mod Homes
-pub mod Opening
-pub mod Crash
-pub mod Engine
-pub mod Database
-pub mod Script
-pub mod Turns
 pub mod Words
-pub mod Top
-pub mod Reports

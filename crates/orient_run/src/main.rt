@@ -7,25 +7,14 @@
 ghost use Rattle.std.specs.Prelude.{◌≡◌};
 ghost use Rattle.std.specs.IoError.{error_kind};
 
-mod database;
-mod engine;
 mod files;
-mod model;
-mod opening;
 mod orient;
-mod outcome;
-mod record;
-mod reply;
-mod run;
-mod statement;
-mod status;
 mod streams;
-mod table;
 #[cfg(test)]
 mod tests;
-mod value;
 
 use files::FileVolume;
+use ori_script::status;
 use ori_volume::NoGate;
 use std::env;
 use std::io::{self, ErrorKind};

@@ -1,20 +1,15 @@
 // The top call.
-ghost use Rattle.std.specs.Prelude.{◌≡◌, ◌⊎◌, ◌≤◌, ◌↔◌, [], map, true, false, None, IfSome, string_bytes};
+ghost use Rattle.std.specs.Prelude.{◌≡◌, ◌⊎◌, ◌≤◌, ◌↔◌, map, true, false, IfSome, string_bytes};
 ghost use Rattle.ori_volume.specs.Causes.{Rose};
 ghost use Rattle.ori_volume.specs.Story.{Tells};
 ghost use Rattle.ori_spec.specs.Stage.{IsDatabase};
 ghost use Rattle.ori_log.specs.Files.{files_data};
-ghost use Rattle.orient_run.specs.Reports.{report_of};
+ghost use Rattle.ori_script.specs.Reports.{report_of};
+ghost use Rattle.ori_script.specs.Top.{IsNotRun, IsRunOver, Crashes, IsFaultless};
 ghost use Rattle.orient_run.specs.Words.{is_script};
-ghost use Rattle.orient_run.specs.Top.{IsNotRun, IsRunOver, Crashes, IsFaultless};
 
-use crate::database::Database;
-use crate::engine::{Engine, StartFault};
-use crate::model::{EntryList, PlacedList};
-use crate::outcome::{Outcome, Report};
-use crate::run::run_lines;
-use crate::status;
-use ori_bytes::NumberList;
+use ori_model::Outcome;
+use ori_script::{no_report, run_script, status};
 use ori_volume::{Gate, Sink, Source, Volume};
 use std::alloc::Global;
 
@@ -26,79 +21,6 @@ fn is_script_words(words: &[String]) -> bool
         [word] => word.as_str() == "script",
         _ => false,
     }
-}
-
-// A report of no run.
-fn no_report(alloc: Global) -> Report
-    ensures { report_of result ≡ record { was_empty = false; history = []; doubt = None; failed = []; marks = [] } }
-{
-    Report {
-        was_empty: false,
-        history: EntryList::new(alloc),
-        doubt: None,
-        failed: PlacedList::new(alloc),
-        marks: NumberList::new(alloc),
-    }
-}
-
-// The status of a volume that wasn't opened.
-fn start_status(fault: StartFault) -> u8
-    ensures volume { result ≡ 5 → fault ≡ StartFault.Fault }
-    ensures form { result ≡ 6 → fault ≡ StartFault.NotADatabase }
-    ensures why { (result ≡ 2) ⊎ (result ≡ 5) ⊎ (result ≡ 6) }
-{
-    match fault {
-        StartFault::Fault => status::VOLUME_FAILED,
-        StartFault::NotADatabase => status::NOT_A_DATABASE,
-        StartFault::NoMemory => status::NO_MEMORY,
-    }
-}
-
-// Runs a script over a volume.
-fn run_script<V: Volume, S: Source, K: Sink>(
-    alloc: Global,
-    volume: &mut V,
-    source: &mut S,
-    sink: &mut K,
-) -> (u8, Report)
-    ensures outcome { IsNotRun (S.left source.old) (S.left source.new) (K.taken sink.old) (K.taken sink.new) result.0 (report_of result.1)
-        ⊎ IsRunOver (V.files volume.old) (S.left source.old) (S.left source.new) (K.taken sink.old) (K.taken sink.new)
-        (V.faults volume.old) (V.faults volume.new) (V.log_faults volume.old) (V.log_faults volume.new) result.0 (report_of result.1) }
-    ensures crash { Tells (Crashes (report_of result.1)) (V.story volume.old) (V.story volume.new) }
-    ensures no_words { result.0 ≡ 1 → ⊥ }
-    ensures kept { result.0 ≡ 6 → V.files volume.new ≡ V.files volume.old }
-    ensures not_a_database { IfSome (V.files volume.old) (λ fs. result.0 ≡ 6 → IsDatabase (files_data fs) → ⊥) }
-    ensures only_database { IfSome (V.files volume.old) (λ fs. (IsDatabase (files_data fs) → ⊥) → (result.0 ≡ 2) ⊎ (result.0 ≡ 5) ⊎ (result.0 ≡ 6)) }
-    ensures source_fault { result.0 ≡ 3 → Rose (S.faults source.old) (S.faults source.new) }
-    ensures sink_fault { result.0 ≡ 4 → Rose (K.faults sink.old) (K.faults sink.new) }
-    ensures volume_fault { result.0 ≡ 5 → Rose (V.faults volume.old) (V.faults volume.new) }
-    ensures source_later { S.faults source.old ≤ S.faults source.new }
-    ensures sink_later { K.faults sink.old ≤ K.faults sink.new }
-    ensures volume_later { V.faults volume.old ≤ V.faults volume.new }
-    ensures log_later { V.log_faults volume.old ≤ V.log_faults volume.new }
-{
-    let engine = match Engine::start(alloc, volume) {
-        Ok(engine) => engine,
-        Err(fault) => return (start_status(fault), no_report(alloc)),
-    };
-    let was_empty = engine.is_initial();
-    let mut database = Database::new(alloc, engine);
-    let status = run_lines(alloc, &mut database, volume, source, sink);
-    let Database {
-        engine,
-        history,
-        marks,
-        doubt,
-    } = database;
-    drop(engine);
-    let report = Report {
-        was_empty,
-        history,
-        doubt,
-        failed: PlacedList::new(alloc),
-        marks: NumberList::from_vec(marks),
-    };
-    (status, report)
 }
 
 /// Runs the command that the words say, on one thread. It returns, whatever the volume, the source and the sink hold or do.
@@ -147,7 +69,6 @@ pub fn orient_alone<V: Volume, S: Source, K: Sink>(
     ensures volume_later { V.faults volume ≤ V.faults result.volume }
     ensures log_later { V.log_faults volume ≤ V.log_faults result.volume }
 {
-    let mut volume = volume;
     if !is_script_words(words) {
         return Outcome {
             status: status::WRONG_WORDS,
@@ -155,12 +76,7 @@ pub fn orient_alone<V: Volume, S: Source, K: Sink>(
             report: no_report(alloc),
         };
     }
-    let (status, report) = run_script(alloc, &mut volume, source, sink);
-    Outcome {
-        status,
-        volume,
-        report,
-    }
+    run_script(alloc, volume, source, sink)
 }
 
 /// Runs the command that the words say. As `orient_alone`, whose clauses it has: no command runs on threads so far, and no

@@ -1,15 +1,17 @@
 // Whole runs over a volume in memory, by worked examples.
 use crate::files::FileVolume;
 use crate::orient::{orient, orient_alone};
-use crate::outcome::Outcome;
 use crate::streams::{StdSink, StdSource};
 use ori_bytes::{Blob, NoMemory, NumberList};
+use ori_model::Outcome;
 use ori_text::print;
 use ori_volume::{FileNo, Image, MemSink, MemSource, MemVolume, NoGate, Sink, Source, Volume};
 use std::alloc::Global;
 use std::process::Abort;
 use std::test::Fail;
 use std::{env, fs, process};
+
+mod transactions;
 
 // What a run came to.
 #[derive(Debug, Drop)]
@@ -58,7 +60,7 @@ fn run(
         status,
         printed: sink.taken().copy()?,
         was_empty: report.was_empty,
-        entries: report.history.len() as u64,
+        entries: report.history.as_slice().len() as u64,
         marks: report.marks.as_slice().len(),
         in_doubt: report.doubt.is_some(),
         is_left: source.read(&mut [0]).unwrap_or(0) > 0,
@@ -102,10 +104,11 @@ fn scripts_print_their_replies(rt: HostRuntime) -> Result<(), Fail> {
             1,
         ),
         ("1 SELECT FROM #1:5\n", "1 OK 0\n", 0, 0),
-        ("1 BEGIN\n", "1 ERR Unbuilt\n", 0, 0),
+        ("1 CREATE CLASS Person\n", "1 ERR Unbuilt\n", 0, 0),
         ("64 TRY 5 BEGIN\n", "64 ERR Unbuilt\n", 0, 0),
         ("! settle\n", "! ERR Unbuilt\n", 0, 0),
-        ("1 BEGIN\n65 BEGIN\n1 BEGIN\n", "1 ERR Unbuilt\n", 8, 0),
+        ("! history\n", "! OK 0\n", 0, 0),
+        ("1 BEGIN\n65 BEGIN\n1 BEGIN\n", "1 OK 0\n", 8, 0),
         ("! flush 8\n", "", 8, 0),
     ];
     for (input, want, status, entries) in cases {

@@ -1,7 +1,7 @@
 use Rattle.std.proofs.Common.{◌∙◌, sym, ap}
 use Rattle.std.proofs.lemmas.Bool.{false≢true}
 use Rattle.ori_spec.specs.Statement.{is_word}
-use Rattle.ori_text.specs.LineReading.{dir_of}
+use Rattle.ori_model.specs.Data.{dir_of}
 use Rattle.ori_text.proofs.LineParts.{bag_rest, bag_text, bag_parts, bag_ends, is_bag}
 use Rattle.ori_text.proofs.line.read_bag.Goals as goal
 

@@ -1,16 +1,13 @@
-use Rattle.std.proofs.Common.{refl, ap}
-use Rattle.orient_run.specs.Reports.{report_of}
-use Rattle.orient_run.proofs.Told.{tells_same}
-use Rattle.orient_run.proofs.Outcomes.{still_crashes, completes}
+use Rattle.std.proofs.Common.{◌≡◌, ◌⊎◌, Option, Some, None, IfSome, inr}
+use Rattle.ori_spec.specs.Stage.{IsDatabase}
+use Rattle.ori_log.specs.Files.{files_data}
 use Rattle.orient_run.proofs.orient.orient_alone.Goals as goal
 
-pub returns-then-not-is_script_words-clause-crash : goal.returns-then-not-is_script_words-clause-crash
-returns-then-not-is_script_words-clause-crash g c =
-    tells_same _ _ _
-    (still_crashes (report_of c.no_report.result) (ap (λ r. r.history) c.no_report.ensures) (ap (λ r. r.doubt) c.no_report.ensures) (ap (λ r. r.marks) c.no_report.ensures)) refl
+some_then : {T : Type 0} (P Q : T → Type 0) (o : Option T) → ((x : T) → P x → Q x) → IfSome o P → IfSome o Q
+some_then P Q None step p = p
+some_then P Q (Some x) step p = step x p
 
-pub returns-clause-complete : goal.returns-clause-complete
-returns-clause-complete g c = λ words fine.
-    let ran = c.run_script-status.ensures in
-    completes (g.V.Volume.files c.args.volume) _ _ _ _ _ _ _ _ _ _ _ _ c.run_script-status.result.0 (report_of c.run_script-status.result.1) ran.outcome ran.no_words ran.not_a_database
-    ran.source_fault ran.sink_fault ran.volume_fault fine
+pub returns-clause-only_database : goal.returns-clause-only_database
+returns-clause-only_database g c =
+    let status = c.run_script.result.status in
+    some_then (λ files. (IsDatabase (files_data files) → ⊥) → (status ≡ 2) ⊎ (status ≡ 5) ⊎ (status ≡ 6)) _ _ (λ files two none. inr (two none)) c.run_script.ensures.only_database

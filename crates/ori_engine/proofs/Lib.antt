@@ -1,0 +1,15 @@
+pub mod RecordForms
+pub mod Moments
+pub mod Safety
+pub mod RowPages
+pub mod HeldRows
+pub mod StaysSafe
+pub mod Refusals
+pub mod Appended
+pub mod Deciding
+pub mod Engines
+pub mod HomePages
+pub mod ReadRows
+pub mod SameBase
+pub mod Found
+pub mod Starting

@@ -1,0 +1,73 @@
+-- What an engine keeps, as plain data, and the state that it stands for.
+use Rattle.std.specs.Prelude.{◌≡◌, ◌⊎◌, ℕ, ◌+◌, ◌<◌, ◌≤◌, length, Option, Some, None, option_map, vec_len, vec_capacity, ⊤}
+use Rattle.ori_bytes.specs.declared.limits.TheConstants.{MAX_FEED_ENTRIES, MAX_FEED_BYTES}
+use Rattle.ori_volume.specs.Causes.{Rose}
+use Rattle.ori_volume.specs.Story.{Story}
+use Rattle.ori_spec.specs.Base.{BaseData, TxData, commit}
+use Rattle.ori_spec.specs.Apply.{fresh}
+use Rattle.ori_spec.specs.Keeping.{OpeningData, StateData, DecisionData, device, busy, damaged, bytes_with}
+use Rattle.ori_model.specs.Data.{entry_of, entries_of}
+use Rattle.ori_rows.specs.Rows.{base_with}
+use Rattle.ori_table.specs.Kept.{rows_of}
+use Rattle.ori_table.specs.Staged.{IsStaged}
+use Rattle.ori_engine.specs.declared.kept.Kept.{Kept}
+use Rattle.ori_engine.specs.declared.prepared.Prepared.{Prepared}
+use Rattle.ori_engine.specs.Commits.{KeptData, IsSafe}
+
+abbrev pub kept_of : Kept → KeptData
+kept_of k = record {
+  rows = rows_of k.table.0;
+  log = k.log;
+  feed = entries_of k.feed.items;
+  marks = k.marks.items;
+  halted = k.halted;
+  doubt = option_map entry_of k.doubt;
+}
+
+abbrev pub state_of : Kept → OpeningData → StateData
+state_of k opening = record {
+  base = Some (base_with (rows_of k.table.0));
+  feed = Some (entries_of k.feed.items);
+  in_use = Some (length (rows_of k.table.0) + 1);
+  room = Some k.room;
+  front = length k.feed.items;
+  halted = k.halted;
+  doubt = option_map entry_of k.doubt;
+  opening = opening;
+}
+
+-- nothing stands against the transaction so far
+pub record IsAskedOf (k : Kept) (tx : TxData) : Type 0 where
+  pub going : k.halted ≡ None
+  pub entries : length k.feed.items < MAX_FEED_ENTRIES
+  pub bytes : bytes_with (entries_of k.feed.items) tx ≤ MAX_FEED_BYTES
+
+-- all that a commit needs before it writes
+pub record IsPrepared (k : Kept) (session : ℕ) (tx : TxData) (p : Prepared) : Type 0 where
+  pub asked : IsAskedOf k tx
+  pub staged : IsStaged (rows_of k.table.0) tx p.staged
+  pub entry_is : entry_of p.entry ≡ commit session tx (fresh (base_with (rows_of k.table.0)) tx)
+  pub fresh_is : p.fresh ≡ fresh (base_with (rows_of k.table.0)) tx
+  pub bytes_are : p.bytes ≡ bytes_with (entries_of k.feed.items) tx
+
+-- there are places for an entry, its mark, and so many positions
+pub record HasRoom (more : ℕ) (k : Kept) : Type 0 where
+  pub feed : vec_len k.feed < vec_capacity k.feed
+  pub marks : vec_len k.marks < vec_capacity k.marks
+  pub rows : more ≤ k.table.1
+
+-- what is safe stays so
+abbrev pub StaysSafe : KeptData → KeptData → Story → Story → Type 0
+StaysSafe old_kept new_kept old new = (base : BaseData) (first : Story) → IsSafe base first old_kept old → IsSafe base first new_kept new
+
+-- commits ended at none of these calls, or at this one, by a fault of the log, when so many calls had failed
+abbrev pub HaltsBy : Option ℕ → Option ℕ → ℕ → ℕ → ℕ → ℕ → Type 0
+HaltsBy old new faults_old faults_new log_old log_new =
+    (new ≡ old) ⊎ ((old ≡ None) × (new ≡ Some faults_new) × Rose faults_old faults_new × Rose log_old log_new)
+
+-- Rows in memory are never read from a device, no turn is waited for, and no page of theirs is damaged.
+abbrev pub IsInside : DecisionData → Type 0
+IsInside device = ⊥
+IsInside (busy turn) = ⊥
+IsInside (damaged page) = ⊥
+IsInside decision = ⊤

@@ -1,0 +1,9 @@
+pub mod Fronts
+pub mod Forms
+pub mod Entries
+pub mod Names
+pub mod Sofar
+pub mod Wholes
+pub mod Counts
+pub mod Signs
+pub mod Putting

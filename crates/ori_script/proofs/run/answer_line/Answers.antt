@@ -1,0 +1,53 @@
+use Rattle.std.proofs.Common.{◌≡◌, [], refl, sym, ◌∙◌, inl, inr}
+use Rattle.std.proofs.lemmas.List.{append-nil}
+use Rattle.ori_volume.proofs.Pieces.{gave_nothing}
+use Rattle.ori_spec.specs.Reply.{answer_text}
+use Rattle.ori_script.proofs.run.answer_line.Goals as goal
+
+pub returns-in_default-clause-answered : goal.returns-in_default-clause-answered
+returns-in_default-clause-answered g c =
+    let a = c.answer.ensures.answered in
+    record {
+      answer = a.answer;
+      stepped = a.stepped;
+      fault_told = a.fault_told;
+      halted_stays = a.halted_stays;
+      output = [];
+      unprinted = answer_text a.answer;
+      text = refl;
+      gave = gave_nothing _;
+      printed = inl refl;
+    }
+
+pub returns-in-Ok-print-clause-answered : goal.returns-in-Ok-print-clause-answered
+returns-in-Ok-print-clause-answered g c =
+    let a = c.in-Ok.ensures.answered in
+    let text : answer_text a.answer ≡ c.as_str.result.now = sym (c.as_str.ensures ∙ a.text_is) in
+    record {
+      answer = a.answer;
+      stepped = a.stepped;
+      fault_told = a.fault_told;
+      halted_stays = a.halted_stays;
+      output = c.as_str.result.now;
+      unprinted = [];
+      text = text ∙ sym (append-nil c.as_str.result.now);
+      gave = c.in-Ok-print.ensures.ok;
+      printed = refl;
+    }
+
+pub returns-clause-answered : goal.returns-clause-answered
+returns-clause-answered g c =
+    let a = c.in-Ok.ensures.answered in
+    let text : answer_text a.answer ≡ c.as_str.result.now = sym (c.as_str.ensures ∙ a.text_is) in
+    let p = c.in-Err.ensures.err in
+    record {
+      answer = a.answer;
+      stepped = a.stepped;
+      fault_told = a.fault_told;
+      halted_stays = a.halted_stays;
+      output = p.part;
+      unprinted = p.left;
+      text = text ∙ p.parts;
+      gave = p.gave;
+      printed = inr refl;
+    }

@@ -1,0 +1,12 @@
+mod Letters
+mod Digits
+mod HandForms
+mod Seen
+mod Written
+mod Rowing
+mod Given
+mod InPlace
+mod Stages
+mod OnBase
+mod Deciding
+mod Turning

@@ -1,0 +1,7 @@
+pub mod Statements
+pub mod Sessions
+pub mod Reads
+pub mod Rows
+pub mod Commits
+pub mod InPlace
+pub mod Runs

@@ -1,6 +1,0 @@
-use Rattle.std.proofs.Common.{arith}
-use Rattle.std.proofs.lemmas.Str.Pattern.{strip_suffix_char}
-use Rattle.orient_run.proofs.statement.before_quote.Goals as goal
-
-pub returns : goal.returns
-returns c = strip_suffix_char 39 c.args.text.now c.strip_suffix.result c.strip_suffix.ensures.cases (omega arith)

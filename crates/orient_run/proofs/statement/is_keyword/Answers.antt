@@ -1,7 +1,0 @@
-use Rattle.std.proofs.Common.{◌∙◌, refl}
-use Rattle.ori_spec.specs.Statement.{keywords}
-use Rattle.orient_run.proofs.Letters.{capitals_match_any}
-use Rattle.orient_run.proofs.statement.is_keyword.Goals as goal
-
-pub returns : goal.returns
-returns c = c.is_one_of.ensures ∙ capitals_match_any keywords c.args.name.now refl
