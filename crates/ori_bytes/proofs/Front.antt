@@ -1,13 +1,16 @@
 -- What stands at the front of bytes is one thing: a varint, groups that are none, or groups that don't end.
-use Rattle.std.proofs.Common.{◌≡◌, ◌<◌, ℕ, suc, ◌^◌, ◌↔◌, true, false, Result, Ok, Err, List, [], ◌∷◌, ◌++◌, length, take, drop, refl, sym, ap, ◌∙◌, subst, arith}
+use Rattle.std.proofs.Common.{◌≡◌, ◌<◌, ℕ, suc, ◌^◌, ◌↔◌, true, false, Result, Ok, Err, List, [], ◌∷◌, ◌++◌, length}
+use Rattle.std.proofs.Common.{take, drop, refl, sym, ap, ◌∙◌, subst, arith}
 use Rattle.std.proofs.Math.IntN.{ℤ, pos, negsuc}
 use Rattle.std.proofs.lemmas.List.{take-append-drop, length-take-le}
 use Rattle.std.specs.Int.{w64}
 use Rattle.std.specs.Int.RustNames.{FitsSigned}
 use Rattle.ori_bytes.specs.declared.fault.ByteFault.{ByteFault}
 use Rattle.ori_bytes.specs.declared.fault.ByteFault.TheVariants.{Short, LongForm, Range}
-use Rattle.ori_bytes.specs.Varint.{groups_number, is_long, varint_bytes, zigzag_of, Begins, IsGroups, IsLongForm, IsTooLarge, IsVarint, NeverEnds, Reads}
-use Rattle.ori_bytes.proofs.Groups.{limit, groups_number-groups_of, groups_of-groups_number, is_long-groups_of, one_front, IsGroups-groups_of}
+use Rattle.ori_bytes.specs.Varint.{groups_number, is_long, varint_bytes, zigzag_of, Begins, IsGroups, IsLongForm}
+use Rattle.ori_bytes.specs.Varint.{IsTooLarge, IsVarint, NeverEnds, Reads}
+use Rattle.ori_bytes.proofs.Groups.{limit, groups_number-groups_of, groups_of-groups_number, is_long-groups_of}
+use Rattle.ori_bytes.proofs.Groups.{one_front, IsGroups-groups_of}
 
 zigzag_fits : (z : ℤ) → FitsSigned w64 z → zigzag_of z < 2 ^ 64
 zigzag_fits (pos n) h = omega (arith, h.sfits)
@@ -48,11 +51,13 @@ never_groups [] more g n = g
 never_groups (b ∷ []) more g n = absurd (omega (arith, g, n 0 0 (omega arith)))
 never_groups (b ∷ c ∷ bs) more g n = never_groups (c ∷ bs) more g.2 (λ k d h. n (suc k) d (omega (arith, h)))
 
-never_begins : (P : List ℕ → Type 0) (bytes : List ℕ) → ((x : List ℕ) → P x → IsGroups x) → NeverEnds bytes → Begins P bytes → ⊥
+never_begins : (P : List ℕ → Type 0) (bytes : List ℕ) → ((x : List ℕ) → P x → IsGroups x) → NeverEnds bytes
+    → Begins P bytes → ⊥
 never_begins P bytes groups n b = never_groups b.0 b.1 (groups b.0 b.2) (rw b.3 at n)
 
 -- what begins with groups in two ways begins with the same
-both_begin : (P Q : List ℕ → Type 0) (bytes : List ℕ) → ((x : List ℕ) → P x → IsGroups x) → ((x : List ℕ) → Q x → IsGroups x) → Begins P bytes → Begins Q bytes → (x : List ℕ) × P x × Q x
+both_begin : (P Q : List ℕ → Type 0) (bytes : List ℕ) → ((x : List ℕ) → P x → IsGroups x)
+    → ((x : List ℕ) → Q x → IsGroups x) → Begins P bytes → Begins Q bytes → (x : List ℕ) × P x × Q x
 both_begin P Q bytes p q b d =
     let same : b.0 ≡ d.0 = one_front b.0 d.0 b.1 d.1 (p b.0 b.2) (q d.0 d.2) (sym b.3 ∙ d.3) in
     (b.0, b.2, subst Q (sym same) d.2)
@@ -122,9 +127,21 @@ pub record Exact (bytes : List ℕ) (at : ℕ) (r : Result ℤ ByteFault) : Type
 pub exact : (bytes : List ℕ) (at : ℕ) (r : Result ℤ ByteFault) → Tells bytes at r → Exact bytes at r
 exact bytes at r t = record {
   only = λ z b. tells_once bytes at r (Ok z) t b;
-  short = (λ e. let u : Tells bytes at (Err (Short at)) = subst (Tells bytes at) e t in u.1, λ b. tells_once bytes at r (Err (Short at)) t (refl, b));
-  long_form = (λ e. let u : Tells bytes at (Err (LongForm at)) = subst (Tells bytes at) e t in u.1, λ b. tells_once bytes at r (Err (LongForm at)) t (refl, b));
-  range = (λ e. let u : Tells bytes at (Err (Range at)) = subst (Tells bytes at) e t in u.1, λ b. tells_once bytes at r (Err (Range at)) t (refl, b));
+  short = (
+    λ e. let u : Tells bytes at (Err (Short at)) = subst (Tells bytes at) e t in u.1,
+    λ b. tells_once bytes at r
+        (Err (Short at)) t (refl, b),
+  );
+  long_form = (
+    λ e. let u : Tells bytes at (Err (LongForm at)) = subst (Tells bytes at) e t in u.1,
+    λ b. tells_once
+        bytes at r (Err (LongForm at)) t (refl, b),
+  );
+  range = (
+    λ e. let u : Tells bytes at (Err (Range at)) = subst (Tells bytes at) e t in u.1,
+    λ b. tells_once bytes at r
+        (Err (Range at)) t (refl, b),
+  );
 }
 
 -- what an answer with a length tells
@@ -137,6 +154,7 @@ fault_tells bytes at (LongForm p) r = r
 fault_tells bytes at (Range p) r = r
 
 -- the number's own bytes
-pub found_front : (bytes : List ℕ) (at len : ℕ) (z : ℤ) → Reads bytes at (Ok (z, len)) → (front : List ℕ) × (more : List ℕ) × IsVarint front z × (bytes ≡ front ++ more) × (length front ≡ len)
+pub found_front : (bytes : List ℕ) (at len : ℕ) (z : ℤ) → Reads bytes at (Ok (z, len)) → (front : List ℕ)
+    × (more : List ℕ) × IsVarint front z × (bytes ≡ front ++ more) × (length front ≡ len)
 found_front bytes at len z r =
     (take len bytes, drop len bytes, r.1, sym (take-append-drop len bytes), length-take-le len bytes r.0)

@@ -1,5 +1,6 @@
 -- The groups of a number, and that no others make it.
-use Rattle.std.proofs.Common.{◌≡◌, ◌<◌, ◌≤◌, ℕ, zero, suc, ◌+◌, ◌-◌, ◌*◌, ◌/◌, ◌%◌, false, nat_eq, List, [], ◌∷◌, ◌++◌, length, take, drop, get_or, set, reverse, refl, sym, ap, ◌∙◌, inl, inr, arith, add-one}
+use Rattle.std.proofs.Common.{◌≡◌, ◌<◌, ◌≤◌, ℕ, zero, suc, ◌+◌, ◌-◌, ◌*◌, ◌/◌, ◌%◌, false, nat_eq, List, [], ◌∷◌, ◌++◌}
+use Rattle.std.proofs.Common.{length, take, drop, get_or, set, reverse, refl, sym, ap, ◌∙◌, inl, inr, arith, add-one}
 use Rattle.std.proofs.Common.{append_assoc, drop-cons}
 use Rattle.std.proofs.Math.Seq.{take-suc-set}
 use Rattle.std.proofs.Math.ListN.{length-set}
@@ -30,7 +31,8 @@ IsGroups-groups_of zero n h = rw (groups_of-small zero n h) h
 IsGroups-groups_of (suc more) n h =
     elim (cases_lt n 128) [
       | inl k ↦ rw (groups_of-small (suc more) n k) k
-      | inr k ↦ rw (groups_of-large more n k) (IsGroups-cons _ _ (omega arith) (omega arith) (IsGroups-groups_of more (n / 128) (omega arith)))
+      | inr k ↦ rw (groups_of-large more n k) (IsGroups-cons _ _ (omega arith) (omega arith)
+          (IsGroups-groups_of more (n / 128) (omega arith)))
     ]
 
 pub groups_number-groups_of : (more n : ℕ) → n < limit more → groups_number (groups_of more n) ≡ n
@@ -47,7 +49,8 @@ last_of-groups_of b zero n p h = rw (groups_of-small zero n h) p
 last_of-groups_of b (suc more) n p h =
     elim (cases_lt n 128) [
       | inl k ↦ rw (groups_of-small (suc more) n k) p
-      | inr k ↦ rw (groups_of-large more n k) (last_of-groups_of (n % 128 + 128) more (n / 128) (omega arith) (omega arith))
+      | inr k ↦ rw (groups_of-large more n k) (last_of-groups_of (n % 128 + 128) more (n / 128) (omega arith)
+          (omega arith))
     ]
 
 positive_test : (n : ℕ) → 0 < n → nat_eq n 0 ≡ false
@@ -63,7 +66,8 @@ is_long-groups_of zero n h = rw (groups_of-small zero n h) refl
 is_long-groups_of (suc more) n h =
     elim (cases_lt n 128) [
       | inl k ↦ rw (groups_of-small (suc more) n k) refl
-      | inr k ↦ rw (groups_of-large more n k) (long_behind (n % 128 + 128) 1 (groups_of more (n / 128)) (omega arith) (last_of-groups_of 1 more (n / 128) (omega arith) (omega arith)))
+      | inr k ↦ rw (groups_of-large more n k) (long_behind (n % 128 + 128) 1 (groups_of more (n / 128)) (omega arith)
+          (last_of-groups_of 1 more (n / 128) (omega arith) (omega arith)))
     ]
 
 test_positive : (n : ℕ) → nat_eq n 0 ≡ false → 0 < n
@@ -79,7 +83,8 @@ long_tail : (b c : ℕ) (bs : List ℕ) → is_long (b ∷ c ∷ bs) ≡ false �
 long_tail b c [] h = refl
 long_tail b c (d ∷ bs) h = h
 
-pub groups_of-groups_number : (bs : List ℕ) (more : ℕ) → IsGroups bs → is_long bs ≡ false → groups_number bs < limit more → groups_of more (groups_number bs) ≡ bs
+pub groups_of-groups_number : (bs : List ℕ) (more : ℕ) → IsGroups bs → is_long bs ≡ false
+    → groups_number bs < limit more → groups_of more (groups_number bs) ≡ bs
 groups_of-groups_number [] more g s h = absurd g
 groups_of-groups_number (b ∷ []) more g s h =
     let e : b % 128 + 128 * 0 ≡ b = omega (arith, g) in rw e (groups_of-small more b g)
@@ -106,11 +111,13 @@ one_front (a ∷ c ∷ s) (b ∷ d ∷ t) x y g h e =
     let same : c ∷ s ≡ d ∷ t = one_front (c ∷ s) (d ∷ t) x y g.2 h.2 tails in cc
 
 -- up to the first byte without the high bit, bytes are groups
-pub IsGroups-take : (bs : List ℕ) (i : ℕ) → ((k : ℕ) → get_or bs k 0 < 256) → i < length bs → get_or bs i 0 < 128 → ((k : ℕ) → k < i → 128 ≤ get_or bs k 0) → IsGroups (take (suc i) bs)
+pub IsGroups-take : (bs : List ℕ) (i : ℕ) → ((k : ℕ) → get_or bs k 0 < 256) → i < length bs → get_or bs i 0 < 128
+    → ((k : ℕ) → k < i → 128 ≤ get_or bs k 0) → IsGroups (take (suc i) bs)
 IsGroups-take [] i f w e h = absurd (omega (arith, w))
 IsGroups-take (b ∷ bs) zero f w e h = e
 IsGroups-take (b ∷ bs) (suc i) f w e h =
-    IsGroups-cons b (take (suc i) bs) (h 0 (omega arith)) (f 0) (IsGroups-take bs i (λ k. f (suc k)) (omega (arith, w)) e (λ k l. h (suc k) (omega arith)))
+    IsGroups-cons b (take (suc i) bs) (h 0 (omega arith)) (f 0)
+    (IsGroups-take bs i (λ k. f (suc k)) (omega (arith, w)) e (λ k l. h (suc k) (omega arith)))
 
 last_of-at : (b : ℕ) (bs : List ℕ) → last_of b bs ≡ get_or (b ∷ bs) (length bs) 0
 last_of-at b [] = refl
@@ -135,7 +142,8 @@ pub record Written (xs : List ℕ) (len rest n : ℕ) : Type 0 where
   pub small : rest < limit (9 - len)
   pub same : take len xs ++ groups_of (9 - len) rest ≡ groups_of 9 n
 
-pub Written-more : (xs : List ℕ) (len rest n : ℕ) → Written xs len rest n → 128 ≤ rest → Written (set xs len (rest % 128 + 128)) (len + 1) (rest / 128) n
+pub Written-more : (xs : List ℕ) (len rest n : ℕ) → Written xs len rest n → 128 ≤ rest
+    → Written (set xs len (rest % 128 + 128)) (len + 1) (rest / 128) n
 Written-more xs len rest n w h =
     elim (cases_lt len 9) [
       | inl k ↦
@@ -154,13 +162,15 @@ Written-more xs len rest n w h =
       | inr k ↦ let e : 9 - len ≡ 0 = omega arith in let small : rest < 128 = rw e at w.small in absurd (omega arith)
     ]
 
-pub Written-last : (xs : List ℕ) (len rest n : ℕ) → Written xs len rest n → rest < 128 → take (len + 1) (set xs len rest) ≡ groups_of 9 n
+pub Written-last : (xs : List ℕ) (len rest n : ℕ) → Written xs len rest n → rest < 128
+    → take (len + 1) (set xs len rest) ≡ groups_of 9 n
 Written-last xs len rest n w h =
     let inside : len < length xs = omega (arith, w.all, w.room) in
     rw (add-one, take-suc-set xs len rest inside, ← groups_of-small (9 - len) rest h) w.same
 
 -- the number of the last groups, one more of which is yielded from the end
-pub number_more : (xs : List ℕ) (k : ℕ) (x : ℕ) → k < length xs → x ≡ get_or (reverse xs) k x → groups_number (drop (length xs - (k + 1)) xs) ≡ x % 128 + 128 * groups_number (drop (length xs - k) xs)
+pub number_more : (xs : List ℕ) (k : ℕ) (x : ℕ) → k < length xs → x ≡ get_or (reverse xs) k x
+    → groups_number (drop (length xs - (k + 1)) xs) ≡ x % 128 + 128 * groups_number (drop (length xs - k) xs)
 number_more xs k x h e =
     let inside : length xs - (k + 1) < length xs = omega arith in
     let next : suc (length xs - (k + 1)) ≡ length xs - k = omega arith in

@@ -16,8 +16,8 @@ rest reading = drop reading.at reading.bytes
 abbrev pub advance : ℕ → Reading → Reading
 advance n reading = record { bytes = reading.bytes; at = reading.at + n }
 
--- What a call that wants n bytes does: where that many are left it moves over them; where fewer are, it answers Short with
--- the place and stays there.
+-- What a call that wants n bytes does: where that many are left it moves over them; where fewer are, it answers Short
+-- with the place and stays there.
 abbrev pub Moves : {X : Type 0} → ℕ → Reading → Reading → Result X ByteFault → Type 0
 Moves n old new (Ok _) = (n ≤ length (rest old)) × (new ≡ advance n old)
 Moves n old new (Err fault) = (length (rest old) < n) × (fault ≡ Short old.at) × (new ≡ old)

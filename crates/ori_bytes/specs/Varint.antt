@@ -1,9 +1,11 @@
 -- Varints: signed numbers of 64 bits in groups of seven bits, in one form.
-use Rattle.std.specs.Prelude.{◌≡◌, ◌<◌, ◌≤◌, ◌==◌, ℕ, zero, suc, ◌+◌, ◌*◌, ◌/◌, ◌%◌, ◌^◌, ℤ, pos, negsuc, Bool, false, nat_lt, if◌then◌else◌, List, [], ◌∷◌, ◌++◌, All, length, take, Result, Ok, Err, IsTrue}
+use Rattle.std.specs.Prelude.{◌≡◌, ◌<◌, ◌≤◌, ◌==◌, ℕ, zero, suc, ◌+◌, ◌*◌, ◌/◌, ◌%◌, ◌^◌, ℤ, pos, negsuc, Bool, false}
+use Rattle.std.specs.Prelude.{nat_lt, if◌then◌else◌, List, [], ◌∷◌, ◌++◌, All, length, take, Result, Ok, Err, IsTrue}
 use Rattle.ori_bytes.specs.declared.fault.ByteFault.{ByteFault}
 use Rattle.ori_bytes.specs.declared.fault.ByteFault.TheVariants.{Short, LongForm, Range}
 
--- Zigzag, which keeps numbers near 0 small: 0, -1, 1, -2 are 0, 1, 2, 3. 2z for z from 0 on, and -2z - 1 below: negsuc n is -n - 1.
+-- Zigzag, which keeps numbers near 0 small: 0, -1, 1, -2 are 0, 1, 2, 3. 2z for z from 0 on, and -2z - 1 below: negsuc
+-- n is -n - 1.
 abbrev pub zigzag_of : ℤ → ℕ
 zigzag_of (pos n) = 2 * n
 zigzag_of (negsuc n) = 2 * n + 1
@@ -56,8 +58,8 @@ NeverEnds bytes = All (λ b. 128 ≤ b) bytes
 abbrev pub Begins : (List ℕ → Type 0) → List ℕ → Type 0
 Begins P bytes = (front : List ℕ) × (more : List ℕ) × P front × (bytes ≡ front ++ more)
 
--- What reading a varint at the front of the bytes answers, where they stand at the place `at`: the number and its length,
--- or a fault.
+-- What reading a varint at the front of the bytes answers, where they stand at the place `at`: the number and its
+-- length, or a fault.
 abbrev pub Reads : List ℕ → ℕ → Result (ℤ × ℕ) ByteFault → Type 0
 Reads bytes at (Ok found) = (found.1 ≤ length bytes) × IsVarint (take found.1 bytes) found.0
 Reads bytes at (Err (Short place)) = (place ≡ at) × NeverEnds bytes

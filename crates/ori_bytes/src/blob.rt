@@ -6,7 +6,7 @@ use std::alloc::Global;
 use std::marker::Model;
 
 /// Bytes, which a contract sees as their list.
-#[derive(Debug, Drop)]
+#[derive(Drop)]
 pub struct Blob {
     bytes: Vec<u8>,
 }

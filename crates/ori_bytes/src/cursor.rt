@@ -9,7 +9,8 @@ use crate::varint::varint_at;
 use byteorder::{BigEndian, ByteOrder};
 use std::marker::Model;
 
-/// Reads bytes in order. A contract sees all the bytes and the place; a call that answers a fault leaves it where it is.
+/// Reads bytes in order. A contract sees all the bytes and the place; a call that answers a fault leaves it where it
+/// is.
 #[derive(Drop)]
 pub struct Cursor<'a> {
     bytes: &'a [u8],
@@ -100,9 +101,9 @@ impl<'a> Cursor<'a> {
         Ok(BigEndian::read_u64(bytes))
     }
 
-    /// Takes a varint: a signed number of 64 bits, zigzag, in groups of seven bits, low group first, the high bit set on all
-    /// but the last, in the shortest form. Short where the bytes left have no last group, LongForm where several groups end
-    /// in one of 0, Range where the number has more than 64 bits.
+    /// Takes a varint: a signed number of 64 bits, zigzag, in groups of seven bits, low group first, the high bit set
+    /// on all but the last, in the shortest form. Short where the bytes left have no last group, LongForm where several
+    /// groups end in one of 0, Range where the number has more than 64 bits.
     pub fn take_varint(&mut self) -> Result<i64, ByteFault>
         // What is read is spelled so, and the place is behind it.
         ensures found { IfOk result (λ z. (front : List ℕ) × (more : List ℕ) × IsVarint front z

@@ -1,7 +1,9 @@
-//! The ground of the store: record identifiers, bytes and text as contracts see them, the counts of causes and the limits.
+//! The ground of the store: record identifiers, bytes and text as contracts see them, the counts of causes and the
+//! limits.
 //!
-//! A `Text`, a `Blob` and each type whose name ends in `List` is a small type over a `String` or a `Vec`, which a contract
-//! sees as the list of what it holds. Each is made from the `String` or the `Vec` and gives it back without taking memory.
+//! A `Text`, a `Blob` and a `ListOf` is a small type over a `String` or a `Vec`, which a contract sees as the list of
+//! what it holds. Each is made from the `String` or the `Vec` and gives it back without taking memory. A type whose
+//! name ends in `List` is a `ListOf` under a name of its own, if it doesn't order itself.
 #![tactic(auto)]
 
 mod blob;
@@ -19,11 +21,8 @@ pub use blob::Blob;
 pub use causes::Causes;
 pub use cursor::Cursor;
 pub use fault::ByteFault;
-pub use lists::{NumberList, RidList};
+pub use lists::{Copied, ListOf, NumberList, RidList};
 pub use memory::NoMemory;
 pub use rid::Rid;
 pub use text::Text;
 pub use varint::{one_form, one_spelling, put_varint, varint_len};
-
-#[cfg(test)]
-mod tests;

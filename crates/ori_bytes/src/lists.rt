@@ -1,134 +1,135 @@
-// Lists of numbers and of record identifiers.
-ghost use Rattle.std.specs.Prelude.{◌≡◌, ◌≤◌, ◌++◌, [], ◌∷◌, List, ℕ, length, IfOk, OnOk, OnErr};
+// Lists, which contracts see as what they hold.
+ghost use Rattle.std.specs.Prelude.{◌≡◌, ◌++◌, [], ◌∷◌, length, IfOk, OnOk, OnErr};
 
-use crate::{NoMemory, Rid};
+use crate::{Blob, NoMemory, Rid, Text};
 use std::alloc::Global;
 use std::marker::Model;
 
-/// A list of numbers, which a contract sees as that list.
-#[derive(Debug, Drop)]
-pub struct NumberList {
-    numbers: Vec<u64>,
+/// What is copied by taking memory, and so may find none.
+pub trait Copied: Drop {
+    /// A copy, or want of memory.
+    fn copied(&self) -> Result<Self, NoMemory>
+        ensures { IfOk result (λ x. x ≡ self.now) };
 }
 
-impl Model for NumberList {
-    ghost Value = { List ℕ };
-
-    ghost view = { λ l. l.numbers.items };
-}
-
-impl NumberList {
-    /// The empty list; takes no memory.
-    pub fn new(alloc: Global) -> Self
-        ensures { result ≡ [] }
-    {
-        NumberList {
-            numbers: Vec::new(alloc),
-        }
-    }
-
-    /// Owns a `Vec`; takes no memory.
-    pub fn from_vec(numbers: Vec<u64>) -> Self
-        ensures { result ≡ numbers.items }
-    {
-        NumberList { numbers }
-    }
-
-    /// Gives the `Vec` back.
-    pub fn into_vec(self) -> Vec<u64>
-        ensures { result.items ≡ self }
-    {
-        self.numbers
-    }
-
-    /// The numbers.
-    pub fn as_slice(&self) -> &[u64]
-        ensures { result.now ≡ self.now }
-    {
-        self.numbers.as_slice()
-    }
-
-    /// Adds a number at the end. Unchanged where memory is wanting.
-    pub fn push(&mut self, number: u64) -> Result<(), NoMemory>
-        ensures ok { OnOk result (self.new ≡ self.old ++ number ∷ []) }
-        ensures err { OnErr result (self.new ≡ self.old) }
-    {
-        self.numbers.push(number)?;
-        Ok(())
-    }
-
-    /// A copy.
-    pub fn copy(&self) -> Result<Self, NoMemory>
-        ensures { IfOk result (λ l. l ≡ self.now) }
-    {
-        Ok(NumberList {
-            numbers: self.numbers.clone()?,
-        })
+impl Copied for u64 {
+    fn copied(&self) -> Result<Self, NoMemory> {
+        Ok(*self)
     }
 }
 
-/// A list of record identifiers, which a contract sees as that list.
-#[derive(Debug, Drop)]
-pub struct RidList {
-    rids: Vec<Rid>,
+impl Copied for Rid {
+    fn copied(&self) -> Result<Self, NoMemory> {
+        Ok(*self)
+    }
 }
 
-impl Model for RidList {
+impl Copied for Text {
+    fn copied(&self) -> Result<Self, NoMemory> {
+        self.copy()
+    }
+}
+
+impl Copied for Blob {
+    fn copied(&self) -> Result<Self, NoMemory> {
+        self.copy()
+    }
+}
+
+impl<A: Copied, B: Copied> Copied for (A, B) {
+    fn copied(&self) -> Result<Self, NoMemory> {
+        Ok((self.0.copied()?, self.1.copied()?))
+    }
+}
+
+/// A list, which a contract sees as the list of its items.
+#[derive(Drop)]
+pub struct ListOf<T> {
+    items: Vec<T>,
+}
+
+impl<T> Model for ListOf<T> {
     ghost use Rattle.std.specs.Prelude.{List};
-    ghost use Rattle.ori_bytes.specs.declared.rid.Rid.{Rid};
+    ghost use Rattle.std.specs.Coded.{coded_list};
 
-    ghost Value = { List Rid };
+    ghost Value = { List T };
 
-    ghost view = { λ l. l.rids.items };
+    ghost coded = { coded_list T.code };
+
+    ghost view = { λ l. l.items.items };
 }
 
-impl RidList {
+impl<T> ListOf<T> {
     /// The empty list; takes no memory.
     pub fn new(alloc: Global) -> Self
         ensures { result ≡ [] }
     {
-        RidList {
-            rids: Vec::new(alloc),
+        ListOf {
+            items: Vec::new(alloc),
         }
     }
 
     /// Owns a `Vec`; takes no memory.
-    pub fn from_vec(rids: Vec<Rid>) -> Self
-        ensures { result ≡ rids.items }
+    pub fn from_vec(items: Vec<T>) -> Self
+        ensures { result ≡ items.items }
     {
-        RidList { rids }
+        ListOf { items }
     }
 
     /// Gives the `Vec` back.
-    pub fn into_vec(self) -> Vec<Rid>
+    pub fn into_vec(self) -> Vec<T>
         ensures { result.items ≡ self }
     {
-        self.rids
+        self.items
     }
 
-    /// The identifiers.
-    pub fn as_slice(&self) -> &[Rid]
+    /// The items.
+    pub fn as_slice(&self) -> &[T]
         ensures { result.now ≡ self.now }
     {
-        self.rids.as_slice()
+        self.items.as_slice()
     }
 
-    /// Adds an identifier at the end. Unchanged where memory is wanting.
-    pub fn push(&mut self, rid: Rid) -> Result<(), NoMemory>
-        ensures ok { OnOk result (self.new ≡ self.old ++ rid ∷ []) }
+    /// How many items it has.
+    pub fn len(&self) -> usize
+        ensures { result ≡ length self.now }
+    {
+        self.items.len()
+    }
+}
+
+impl<T: Drop> ListOf<T> {
+    /// Adds an item at the end. Unchanged where memory is wanting.
+    pub fn push(&mut self, item: T) -> Result<(), NoMemory>
+        ensures ok { OnOk result (self.new ≡ self.old ++ item ∷ []) }
         ensures err { OnErr result (self.new ≡ self.old) }
     {
-        self.rids.push(rid)?;
+        self.items.push(item)?;
         Ok(())
     }
+}
 
-    /// A copy.
+impl<T: Copied> ListOf<T> {
+    /// A copy, or want of memory.
     pub fn copy(&self) -> Result<Self, NoMemory>
         ensures { IfOk result (λ l. l ≡ self.now) }
     {
-        let alloc = *self.rids.allocator();
-        Ok(RidList {
-            rids: Vec::from_slice(alloc, self.rids.as_slice())?,
-        })
+        let mut items = Vec::with_capacity(*self.items.allocator(), self.items.len())?;
+        for item in &self.items {
+            items.push(item.copied()?)?;
+        }
+        Ok(ListOf { items })
     }
 }
+
+impl<T: Copied> Copied for ListOf<T> {
+    fn copied(&self) -> Result<Self, NoMemory> {
+        self.copy()
+    }
+}
+
+/// A list of numbers.
+pub type NumberList = ListOf<u64>;
+
+/// A list of record identifiers.
+pub type RidList = ListOf<Rid>;

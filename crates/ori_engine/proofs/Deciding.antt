@@ -1,50 +1,52 @@
 -- What a commit answers, by what was tested.
-use Rattle.std.proofs.Common.{◌≡◌, ◌⊎◌, inl, inr, option_map, ℕ, zero, suc, ◌+◌, ◌*◌, ◌-◌, ◌<◌, ◌≤◌, List, [], ◌∷◌, ◌++◌, length, Option, Some, Result, Ok, Err, IfErr, refl, sym, ap, ◌∙◌, subst, arith}
-use Rattle.ori_bytes.specs.declared.limits.TheConstants.{PAGE_BYTES}
-use Rattle.std.specs.List.{AllByRecursion}
+use Rattle.std.proofs.Common.{◌≡◌, ◌⊎◌, inl, inr, option_map, ℕ, ◌+◌, ◌-◌, ◌<◌, ◌≤◌, List, [], ◌∷◌}
+use Rattle.std.proofs.Common.{◌++◌, length, Option, Some, Result, Ok, Err, IfErr, refl, sym, ap, ◌∙◌, subst, arith}
 use Rattle.ori_bytes.specs.declared.rid.Rid.{Rid}
-use Rattle.ori_log.specs.Images.{IsWhole}
-use Rattle.ori_log.specs.Appending.{need_of}
-use Rattle.ori_log.proofs.Images.{length-body}
 use Rattle.ori_log.specs.declared.fault.LogFault.{LogFault}
 use Rattle.ori_log.specs.declared.fault.LogFault.TheVariants as faults
 use Rattle.std.proofs.lemmas.Bool.{cases_lt}
-use Rattle.ori_spec.specs.Base.{ClassData, RecordData, ChangeData, create, update, delete, touch, TxData, EntryData, commit}
-use Rattle.ori_spec.specs.Apply.{fresh, fresh_of, raised, cluster_of}
-use Rattle.ori_spec.specs.Weighing.{entry_bytes, feed_bytes, record_need, log_need}
-use Rattle.ori_spec.specs.Refusing.{refusal}
-use Rattle.ori_spec.specs.Keeping.{OpeningData, DecisionData, refused, accepted, fault, no_memory, IsAsked, IsAllowed, IsGranted, AreFresh, creations, Decides}
+use Rattle.ori_spec_data.specs.Base.{RecordData, TxData}
+use Rattle.ori_spec_data.specs.Base.{EntryData, commit}
+use Rattle.ori_spec_data.specs.Apply.{fresh}
+use Rattle.ori_spec_data.specs.Weighing.{entry_bytes, feed_bytes, log_need}
+use Rattle.ori_spec_data.specs.Refusing.{refusal}
+use Rattle.ori_spec_data.proofs.Kept.{fresh_count}
+use Rattle.ori_spec_data.specs.Keeping.{OpeningData, DecisionData, refused, accepted, fault, no_memory, IsAsked}
+use Rattle.ori_spec_data.specs.Keeping.{IsAllowed, IsGranted, AreFresh, DecidesCommit}
 use Rattle.ori_model.specs.declared.entry.Entry.{Entry}
 use Rattle.ori_model.specs.declared.fault.CommitFault.{CommitFault}
 use Rattle.ori_model.specs.Data.{entry_of, entries_of}
 use Rattle.ori_rows.specs.Rows.{base_with}
 use Rattle.ori_rows.proofs.Changed.{length_puts}
 use Rattle.ori_table.specs.Data.{outcomes_data}
-use Rattle.ori_table.specs.Staged.{IsStaged, rows_with}
-use Rattle.ori_table.specs.declared.stage.Staged.{Staged}
+use Rattle.ori_table.specs.Staged.{rows_with}
 use Rattle.ori_engine.specs.declared.prepared.Prepared.{Prepared}
 use Rattle.ori_table.specs.Kept.{rows_of}
-use Rattle.ori_table.specs.Told.{told, Answers}
+use Rattle.ori_decide.specs.Told.{Answers}
 use Rattle.ori_engine.specs.declared.kept.Kept.{Kept}
-use Rattle.ori_engine.specs.States.{state_of, IsAskedOf, IsPrepared, IsInside}
+use Rattle.ori_engine.specs.States.{state_of, IsAskedOf, IsPrepared, Refuses, IsInside}
 use Rattle.ori_engine.proofs.Refusals.{may_refuse}
 
 pub asked : (k : Kept) (tx : TxData) (opening : OpeningData) → IsAskedOf k tx → IsAsked (state_of k opening) tx
 asked k tx opening h = record { running = h.going; entries = h.entries; bytes = h.bytes }
 
-pub decided_by : (k : Kept) (session : ℕ) (tx : TxData) (opening : OpeningData) (why : CommitFault) → IsAskedOf k tx → Answers {T = Unit {0}} (refusal (base_with (rows_of k.table.0)) tx) (Err why)
-    → Decides (state_of k opening) session tx (told why) (state_of k opening)
-decided_by k session tx opening why h (inl none) = subst (λ (d : DecisionData). Decides (state_of k opening) session tx d (state_of k opening)) (sym none) refl
-decided_by k session tx opening why h (inr (w, e, t)) =
-    subst (λ (d : DecisionData). Decides (state_of k opening) session tx d (state_of k opening)) (sym t) (asked k tx opening h, e, may_refuse (base_with (rows_of k.table.0)) tx w e, refl)
-
-pub stage_refuses : (T : Type 0) (k : Kept) (session : ℕ) (tx : TxData) (result : Result T CommitFault) → IsAskedOf k tx → Answers {T = T} (refusal (base_with (rows_of k.table.0)) tx) result
-    → IfErr result (λ why. (opening : OpeningData) → Decides (state_of k opening) session tx (told why) (state_of k opening))
+pub stage_refuses : (T : Type 0) (k : Kept) (session : ℕ) (tx : TxData) (result : Result T CommitFault) → IsAskedOf k tx
+    → Answers {T = T} (refusal (base_with (rows_of k.table.0)) tx) result → IfErr result (Refuses k session tx)
 stage_refuses T k session tx (Ok x) h answers = tt
-stage_refuses T k session tx (Err why) h answers = λ opening. decided_by k session tx opening why h (same answers) where
-  same : Answers {T = T} (refusal (base_with (rows_of k.table.0)) tx) (Err why) → Answers {T = Unit {0}} (refusal (base_with (rows_of k.table.0)) tx) (Err why)
-  same (inl a) = inl a
-  same (inr b) = inr b
+stage_refuses T k session tx (Err why) h (inl none) = record {
+  decides = λ opening.
+      subst (λ (d : DecisionData). DecidesCommit (state_of k opening) session tx d (state_of k opening))
+      (sym none) refl;
+  no_fault = λ is. let both : no_memory ≡ fault = sym none ∙ is in absurd (cc both);
+  inside = subst IsInside (sym none) tt;
+}
+stage_refuses T k session tx (Err why) h (inr (w, e, t)) = record {
+  decides = λ opening.
+      subst (λ (d : DecisionData). DecidesCommit (state_of k opening) session tx d (state_of k opening)) (sym t)
+      (asked k tx opening h, e, may_refuse (base_with (rows_of k.table.0)) tx w e, refl);
+  no_fault = λ is. let both : refused w ≡ fault = sym t ∙ is in absurd (cc both);
+  inside = subst IsInside (sym t) tt;
+}
 
 pub feed_more : (xs : List EntryData) (x : EntryData) → feed_bytes (xs ++ x ∷ []) ≡ feed_bytes xs + entry_bytes x
 feed_more [] x = omega arith
@@ -56,50 +58,50 @@ entries_more (y ∷ xs) x = ap (λ (l : List EntryData). entry_of y ∷ l) (entr
 
 -- ---- what was prepared
 
-counts : (n : ℕ) → 0 < n → (m : ℕ) → m ≡ 6 + (4 + n * (4 + PAGE_BYTES)) → m ≡ record_need n
-counts zero some m e = absurd (omega arith)
-counts (suc k) some m e = omega (arith, e)
-
-length_fresh : (classes : List ClassData) (next : List ℕ) (cs : List ChangeData) → length (fresh_of classes next cs) ≡ creations cs
-length_fresh classes next [] = refl
-length_fresh classes next (create temp class fields ∷ cs) = let rest = length_fresh classes (raised next (cluster_of classes class)) cs in omega (arith, rest)
-length_fresh classes next (update rid version fields ∷ cs) = length_fresh classes next cs
-length_fresh classes next (delete rid version ∷ cs) = length_fresh classes next cs
-length_fresh classes next (touch rid version ∷ cs) = length_fresh classes next cs
-
 -- these are the identifiers of the new records, one for each
-pub are_fresh : (k : Kept) (tx : TxData) (rids : List Rid) (opening : OpeningData) → rids ≡ fresh (base_with (rows_of k.table.0)) tx → AreFresh (state_of k opening) tx rids
-are_fresh k tx rids opening h = (ap length h ∙ length_fresh (base_with (rows_of k.table.0)).schema.classes (base_with (rows_of k.table.0)).next tx.changes, h)
+pub are_fresh : (k : Kept) (tx : TxData) (rids : List Rid) (opening : OpeningData)
+    → rids ≡ fresh (base_with (rows_of k.table.0)) tx → AreFresh (state_of k opening) tx rids
+are_fresh k tx rids opening h = (
+  ap length h ∙ fresh_count (base_with (rows_of k.table.0)).schema.classes (base_with
+      (rows_of k.table.0)).next tx.changes,
+  h,
+)
 
--- the log needs so many bytes for the images
-pub need_is : (rows : List (Option RecordData)) (tx : TxData) (s : Staged) → IsStaged rows tx s → AllByRecursion IsWhole s.images → need_of s.images ≡ log_need tx
-need_is rows tx s staged whole =
-    let body = length-body s.images whole in
-    counts (length s.images) staged.some (need_of s.images) (omega (arith, body)) ∙ ap record_need staged.count
-
-pub allowed : (k : Kept) (session : ℕ) (tx : TxData) (p : Prepared) (opening : OpeningData) → IsPrepared k session tx p → IsAllowed (state_of k opening) tx
+pub allowed : (k : Kept) (session : ℕ) (tx : TxData) (p : Prepared) (opening : OpeningData) → IsPrepared k session tx p
+    → IsAllowed (state_of k opening) tx
 allowed k session tx p opening h = record {
   asked = asked k tx opening h.asked;
   allowed = (h.staged).allowed;
-  pages = omega (arith, (h.staged).room, (h.staged).light, length_puts (rows_of k.table.0) (outcomes_data p.staged.outcomes.items));
+  pages = omega (
+    arith,
+    (h.staged).room,
+    (h.staged).light,
+    length_puts (rows_of k.table.0)
+        (outcomes_data p.staged.outcomes.items),
+  );
 }
 
-pub granted : (k : Kept) (session : ℕ) (tx : TxData) (p : Prepared) (opening : OpeningData) → IsPrepared k session tx p → log_need tx ≤ k.room → IsGranted (state_of k opening) tx
+pub granted : (k : Kept) (session : ℕ) (tx : TxData) (p : Prepared) (opening : OpeningData) → IsPrepared k session tx p
+    → log_need tx ≤ k.room → IsGranted (state_of k opening) tx
 granted k session tx p opening h room = record { allowed = allowed k session tx p opening h; room = room }
 
 -- it was accepted
-pub accepts : (old new : Kept) (session : ℕ) (tx : TxData) (p : Prepared) (opening : OpeningData) → IsPrepared old session tx p → log_need tx ≤ old.room
-    → rows_of new.table.0 ≡ rows_with (rows_of old.table.0) p.staged → entries_of new.feed.items ≡ entries_of old.feed.items ++ entry_of p.entry ∷ [] → length new.feed.items ≡ length old.feed.items + 1
+pub accepts : (old new : Kept) (session : ℕ) (tx : TxData) (p : Prepared) (opening : OpeningData)
+    → IsPrepared old session tx p → log_need tx ≤ old.room
+    → rows_of new.table.0 ≡ rows_with (rows_of old.table.0) p.staged
+    → entries_of new.feed.items ≡ entries_of old.feed.items ++ entry_of p.entry ∷ []
+    → length new.feed.items ≡ length old.feed.items + 1
     → new.room ≡ old.room - (log_need tx - 1) → new.halted ≡ old.halted → new.doubt ≡ old.doubt
-    → Decides (state_of old opening) session tx (accepted (length old.feed.items) p.fresh) (state_of new opening)
+    → DecidesCommit (state_of old opening) session tx (accepted (length old.feed.items) p.fresh) (state_of new opening)
 accepts old new session tx p opening h room rows feed front room_is halted doubt = (
   granted old session tx p opening h room,
   refl,
   are_fresh old tx p.fresh opening h.fresh_is,
   record {
     base = ap (λ (l : List (Option RecordData)). Some (base_with l)) rows ∙ ap Some (h.staged).made;
-    feed = ap Some (feed ∙ ap (λ (e : EntryData). entries_of old.feed.items ++ e ∷ []) (h.entry_is ∙ ap (λ (rids : List Rid). commit session tx rids) (sym h.fresh_is)));
-    room = ap Some room_is;
+    feed = ap Some (feed ∙ ap (λ (e : EntryData). entries_of old.feed.items ++ e ∷ []) (h.entry_is ∙ ap (λ
+        (rids : List Rid). commit session tx rids) (sym h.fresh_is)));
+    limit = ap Some room_is;
     in_use = omega (arith, ap length rows, (h.staged).in_use);
     front = front;
     halted = halted;
@@ -126,25 +128,10 @@ abbrev Answer : Type 0
 Answer = Result (Unit {0}) LogFault
 
 -- an append that failed, and not for want of room
-pub not_full : (why : LogFault) (need room : ℕ) → (room < need → ◌≡◌ {A = Answer} (Err why) (Err (faults.LogFull need room))) → (need ≤ room → ◌≡◌ {A = Answer} (Err why) (Err faults.Failed))
+pub not_full : (why : LogFault) (need room : ℕ) → (room < need → ◌≡◌ {A = Answer} (Err why) (Err
+    (faults.LogFull need room))) → (need ≤ room → ◌≡◌ {A = Answer} (Err why) (Err faults.Failed))
     → ((n r : ℕ) → why ≡ faults.LogFull n r → ⊥) → (need ≤ room) × (why ≡ faults.Failed)
 not_full why need room full fits other =
     let enough : need ≤ room = at_least room need (λ short. let is = full short in other need room (cc is)) in
     let failed = fits enough in
     (enough, cc failed)
-
--- the base never answers a fault
-pub stage_no_fault : (T : Type 0) (k : Kept) (tx : TxData) (result : Result T CommitFault) → Answers {T = T} (refusal (base_with (rows_of k.table.0)) tx) result → IfErr result (λ why. told why ≡ fault → ⊥)
-stage_no_fault T k tx (Ok x) answers = tt
-stage_no_fault T k tx (Err why) answers = by answers where
-  by : Answers {T = T} (refusal (base_with (rows_of k.table.0)) tx) (Err why) → told why ≡ fault → ⊥
-  by (inl none) is = let both : no_memory ≡ fault = sym none ∙ is in absurd (cc both)
-  by (inr (w, e, t)) is = let both : refused w ≡ fault = sym t ∙ is in absurd (cc both)
-
--- nor anything that rows in memory don't
-pub stage_inside : (T : Type 0) (k : Kept) (tx : TxData) (result : Result T CommitFault) → Answers {T = T} (refusal (base_with (rows_of k.table.0)) tx) result → IfErr result (λ why. IsInside (told why))
-stage_inside T k tx (Ok x) answers = tt
-stage_inside T k tx (Err why) answers = by answers where
-  by : Answers {T = T} (refusal (base_with (rows_of k.table.0)) tx) (Err why) → IsInside (told why)
-  by (inl none) = subst IsInside (sym none) tt
-  by (inr (w, e, t)) = subst IsInside (sym t) tt

@@ -1,13 +1,140 @@
--- What an engine keeps through a commit.
-use Rattle.std.proofs.Common.{◌≡◌, Option, Some, None, sym, subst}
+-- What an engine keeps through a commit, and what its state says.
+use Rattle.std.proofs.Common.{◌≡◌, inl, inr, ℕ, ◌+◌, ◌<◌, ◌≤◌, true, List, [], ◌∷◌, length, Option, Some, None}
+use Rattle.std.proofs.Common.{option_map, IsSome, refl, sym, ap, ◌∙◌, subst, arith}
+use Rattle.std.specs.Option.{ForSome}
+use Rattle.ori_bytes.specs.declared.causes.Causes.{Causes}
+use Rattle.ori_volume.specs.Causes.{Rose}
 use Rattle.ori_volume.specs.Story.{Story, Tells}
+use Rattle.ori_volume.proofs.Known.{tells_map}
+use Rattle.ori_spec_data.specs.Base.{RecordData, BaseData}
+use Rattle.ori_spec_data.specs.Views.{are_real}
+use Rattle.ori_spec_data.specs.Keeping.{OpeningData, DecisionData, accepted, halted_at, feed_full, refused}
+use Rattle.ori_spec_data.specs.Keeping.{pages_full, log_full, fault, device, busy, damaged, no_memory, counted}
+use Rattle.ori_rows.specs.Rows.{records_of, AreAt, base_with}
+use Rattle.ori_table.specs.Kept.{rows_of}
+use Rattle.ori_model.specs.declared.entry.Entry.{Entry}
+use Rattle.ori_model.specs.Data.{entry_of, entries_of}
+use Rattle.ori_engine.specs.declared.kept.Kept.{Kept}
 use Rattle.ori_engine.specs.Commits.{KeptData}
-use Rattle.ori_engine.specs.States.{StaysSafe}
-use Rattle.ori_engine.specs.Openings.{SafeSince}
+use Rattle.ori_engine.specs.KeeperLaws.{entries_length}
+use Rattle.ori_engine.specs.States.{state_of, IsNewlyKept, StaysSafe, HaltsBy, IsInside}
+use Rattle.ori_engine.specs.Openings.{IsStartedKept, IsStarted, IsFresh, IsKeptState, SafeSince, Survives}
 
-pub sound_on : (old new : KeptData) (first : Option Story) (a b : Option Story) → Tells (StaysSafe old new) a b → Tells (SafeSince old) first a → Tells (SafeSince new) first b
+pub sound_on : (old new : KeptData) (first : Option Story) (a b : Option Story) → Tells (StaysSafe old new) a b
+    → Tells (SafeSince old) first a → Tells (SafeSince new) first b
 sound_on old new None a b told safe =
     subst (λ (o : Option Story). Tells (StaysSafe old new) o b → b ≡ None) (sym safe) (λ is. is) told
 sound_on old new (Some x) a b told (now, is, safe) =
-    let onward : Tells (StaysSafe old new) (Some now) b = subst (λ (o : Option Story). Tells (StaysSafe old new) o b) is told in
+    let onward : Tells (StaysSafe old new) (Some now) b = subst (λ (o : Option Story). Tells
+    (StaysSafe old new) o b) is told in
     (onward.0, onward.1, λ base opens. onward.2 base x (safe base opens))
+
+-- what is safe survives
+pub survives_so : (kept : KeptData) (first now : Option Story) → Tells (SafeSince kept) first now
+    → Tells (Survives kept.feed kept.doubt kept.marks) first now
+survives_so kept first now safe = tells_map _ _ _ _ (λ x y was safe. λ base opens. (safe base opens).crash) safe
+
+-- ---- the state
+
+pub started_so : (k : Kept) (opening : OpeningData) (base : BaseData) (room : ℕ) → IsStartedKept base room k
+    → IsStarted base room (state_of k opening)
+started_so k opening base room h = record {
+  sound = h.sound;
+  base_is = ap Some h.rows_are;
+  limit_is = ap Some h.room_is;
+}
+
+pub fresh_so : (k : Kept) (opening : OpeningData) → IsNewlyKept k → IsFresh (state_of k opening)
+fresh_so k opening h = record {
+  feed = ap (λ (es : List Entry). Some (entries_of es)) h.feed;
+  front = ap length h.feed;
+  halted = h.halted;
+  doubt = ap (option_map entry_of) h.doubt;
+}
+
+-- records in their places have real identifiers
+real_at : (p : ℕ) (rows : List (Option RecordData)) → AreAt p rows → are_real (records_of rows) ≡ true
+real_at p [] h = refl
+real_at p (None ∷ rows) h = real_at (p + 1) rows h
+real_at p (Some r ∷ rows) h = rw (h.0) (real_at (p + 1) rows h.1)
+
+is_there : (o : Option Entry) → IsSome (option_map entry_of o) → IsSome o
+is_there None h = absurd (cc h)
+is_there (Some entry) h = refl
+
+pub kept_state : (k : Kept) (opening : OpeningData) (causes : Causes) → AreAt 0 (rows_of k.table.0)
+    → (causes.device ≡ 0) × (causes.busy ≡ 0) × (causes.damaged ≡ 0) → IsKeptState (state_of k opening) causes
+kept_state k opening causes at inside = record {
+  base = base_with (rows_of k.table.0);
+  base_is = refl;
+  real = real_at 0 (rows_of k.table.0) at;
+  in_use_is = refl;
+  feed = entries_of k.feed.items;
+  feed_is = refl;
+  front_is = sym (entries_length k.feed.items);
+  limit = k.room;
+  limit_is = refl;
+  doubted = λ some. k.doubts (is_there k.doubt some);
+  inside = inside;
+}
+
+-- ---- causes
+
+abbrev pub Inside : Causes → Type 0
+Inside causes = (causes.device ≡ 0) × (causes.busy ≡ 0) × (causes.damaged ≡ 0)
+
+pub inside_on : (d : DecisionData) (causes : Causes) → IsInside d → Inside causes → Inside (counted d causes)
+inside_on (accepted place rids) causes is h = h
+inside_on (halted_at at) causes is h = h
+inside_on (feed_full entries bytes) causes is h = h
+inside_on (refused why) causes is h = h
+inside_on (pages_full n heavy) causes is h = h
+inside_on (log_full need room) causes is h = h
+inside_on fault causes is h = h
+inside_on device causes is h = absurd is
+inside_on (busy turn) causes is h = absurd is
+inside_on (damaged page) causes is h = absurd is
+inside_on no_memory causes is h = h
+
+-- Fault is counted only where a call failed
+pub faulted_on : (d : DecisionData) (causes : Causes) (opened old new : ℕ) → opened ≤ old → old ≤ new
+    → (d ≡ fault → Rose old new) → (0 < causes.fault → Rose opened old) → 0 < (counted d causes).fault → Rose opened new
+faulted_on fault causes opened old new before later rose h some = let r = rose refl in omega (arith, r, before)
+faulted_on (accepted place rids) causes opened old new before later rose h some = let r = h some in omega
+    (arith, r, later)
+faulted_on (halted_at at) causes opened old new before later rose h some = let r = h some in omega (arith, r, later)
+faulted_on (feed_full entries bytes) causes opened old new before later rose h some = let r = h some in omega
+    (arith, r, later)
+faulted_on (refused why) causes opened old new before later rose h some = let r = h some in omega (arith, r, later)
+faulted_on (pages_full n heavy) causes opened old new before later rose h some = let r = h some in omega
+    (arith, r, later)
+faulted_on (log_full need room) causes opened old new before later rose h some = let r = h some in omega
+    (arith, r, later)
+faulted_on device causes opened old new before later rose h some = let r = h some in omega (arith, r, later)
+faulted_on (busy turn) causes opened old new before later rose h some = let r = h some in omega (arith, r, later)
+faulted_on (damaged page) causes opened old new before later rose h some = let r = h some in omega (arith, r, later)
+faulted_on no_memory causes opened old new before later rose h some = let r = h some in omega (arith, r, later)
+
+-- ---- the end of commits
+
+pub halts_on : (old new : Option ℕ) (opened faults now log_opened log log_now : ℕ) → faults ≤ now → opened ≤ faults
+    → log_opened ≤ log → HaltsBy old new faults now log log_now
+    → ForSome old (λ at. Rose opened at × (at ≤ faults) × Rose log_opened log)
+    → ForSome new (λ at. Rose opened at × (at ≤ now) × Rose log_opened log_now)
+halts_on old new opened faults now log_opened log log_now later before log_before (inl
+    (same, log_same)) halts = λ at is.
+    let was = halts at (sym same ∙ is) in
+    (was.0, omega (arith, was.1, later), subst (Rose log_opened) (sym log_same) was.2)
+halts_on old new opened faults now log_opened log log_now later before log_before (inr
+    (going, ended, rose, log_rose)) halts =
+    λ at is.
+    let both : Some now ≡ Some at = sym ended ∙ is in
+    let one : now ≡ at = cc in
+    (omega (arith, rose, before, one), omega (arith, one), omega (arith, log_rose, log_before))
+
+pub goes_on : (old new : Option ℕ) (faults now log_opened log log_now : ℕ) → HaltsBy old new faults now log log_now
+    → (old ≡ None → log ≡ log_opened) → new ≡ None → log_now ≡ log_opened
+goes_on old new faults now log_opened log log_now (inl (same, log_same)) going none = log_same ∙ going (sym same ∙ none)
+goes_on old new faults now log_opened log log_now (inr (was, ended, rose, log_rose)) going none =
+    let both : Some now ≡ None = sym ended ∙ none in
+    absurd (cc both)

@@ -13,3 +13,5 @@ pub mod ReadRows
 pub mod SameBase
 pub mod Found
 pub mod Starting
+pub mod Written
+pub mod OneBase

@@ -1,34 +1,45 @@
 -- What is safe stays so through a commit.
-use Rattle.std.proofs.Common.{◌≡◌, ◌⊎◌, ℕ, List, [], ◌∷◌, ◌++◌, length, Option, Some, None, Ok, Err, sym, ap, ◌∙◌, subst}
+use Rattle.std.proofs.Common.{◌≡◌, ◌⊎◌, ℕ, List, [], ◌∷◌, ◌++◌, length, Option, Some, None, Ok, Err, sym, ap, ◌∙◌}
+use Rattle.std.proofs.Common.{subst}
 use Rattle.ori_volume.specs.Story.{Story, moment_of}
 use Rattle.ori_volume.specs.Runs.{Run, EachImage}
-use Rattle.ori_spec.specs.Base.{BaseData, EntryData}
-use Rattle.ori_spec.specs.Apply.{apply, replay}
-use Rattle.ori_spec.specs.Soundness.{IsSoundBase}
-use Rattle.ori_spec.specs.Stage.{Opens}
-use Rattle.ori_log.specs.Files.{files_data}
+use Rattle.ori_spec_data.specs.Base.{BaseData, EntryData}
+use Rattle.ori_spec_data.specs.Apply.{apply, replay}
+use Rattle.ori_spec_data.specs.Soundness.{IsSoundBase}
+use Rattle.ori_rows.specs.Stage.{OpensTo}
 use Rattle.ori_rows.specs.Rows.{base_with}
-use Rattle.ori_engine.specs.Crash.{CrashSafe, doubts}
+use Rattle.ori_spec_crash.specs.Crash.{CrashSafe, doubts}
 use Rattle.ori_engine.specs.Commits.{CommitsSafely, KeptData, IsSafe}
 use Rattle.ori_engine.proofs.Safety.{replay-more, crash_grown, crash_doubted}
 
 -- the entry was acknowledged
-pub safe_grown : {T E : Type 0} (base : BaseData) (first old now : Story) (kept new : KeptData) (entry : EntryData) (x : T) → IsSafe base first kept old → kept.halted ≡ None
-    → IsSoundBase (apply (replay base kept.feed) entry) → base_with new.rows ≡ apply (replay base kept.feed) entry → new.feed ≡ kept.feed ++ entry ∷ [] → new.marks ≡ kept.marks ++ moment_of now ∷ []
-    → new.doubt ≡ kept.doubt → CommitsSafely {T = T} {E = E} (replay base kept.feed) (apply (replay base kept.feed) entry) new.log new.rows (Ok x) old now → IsSafe base first new now
+pub safe_grown : {T E : Type 0} (base : BaseData) (first old now : Story) (kept new : KeptData) (entry : EntryData)
+    (x : T) → IsSafe base first kept old → kept.halted ≡ None
+    → IsSoundBase (apply (replay base kept.feed) entry) → base_with new.rows ≡ apply (replay base kept.feed) entry
+    → new.feed ≡ kept.feed ++ entry ∷ [] → new.marks ≡ kept.marks ++ moment_of now ∷ []
+    → new.doubt ≡ kept.doubt → CommitsSafely {T = T} {E = E} (replay base kept.feed) (apply
+    (replay base kept.feed) entry) new.log new.rows (Ok x) old now → IsSafe base first new now
 safe_grown base first old now kept new entry x safe going sound rows feed marks doubt commits =
     let none : new.doubt ≡ None = doubt ∙ safe.no_doubt going in
-    let after : replay base (kept.feed ++ entry ∷ []) ≡ apply (replay base kept.feed) entry = replay-more base kept.feed entry in
+    let after : replay base (kept.feed ++ entry ∷ []) ≡ apply
+    (replay base kept.feed) entry = replay-more base kept.feed entry in
     let whole : replay base new.feed ≡ apply (replay base kept.feed) entry = ap (replay base) feed ∙ after in
-    let crash0 : CrashSafe base kept.feed [] kept.marks first old = subst (λ (o : Option EntryData). CrashSafe base kept.feed (doubts kept.feed o) kept.marks first old) (safe.no_doubt going) safe.crash in
-    let crash1 : CrashSafe base (kept.feed ++ entry ∷ []) [] (kept.marks ++ moment_of now ∷ []) first now =
+    let crash0 : CrashSafe OpensTo base kept.feed [] kept.marks first old = subst (λ
+    (o : Option EntryData). CrashSafe OpensTo base kept.feed (doubts kept.feed o) kept.marks first old)
+    (safe.no_doubt going) safe.crash in
+    let crash1 : CrashSafe OpensTo base (kept.feed ++ entry ∷ []) [] (kept.marks ++ moment_of now ∷ []) first now =
     crash_grown base kept.feed entry kept.marks first old now crash0
-    (subst (λ (b : BaseData). Run (EachImage (λ image. Opens (files_data image) (replay base kept.feed) ⊎ Opens (files_data image) b)) old now) (sym after) commits.moments)
-    (subst (λ (b : BaseData). EachImage (λ image. Opens (files_data image) b) now.now.disk) (sym after) commits.whole) in
-    let crash2 : CrashSafe base new.feed [] (kept.marks ++ moment_of now ∷ []) first now = subst (λ (l : List EntryData). CrashSafe base l [] (kept.marks ++ moment_of now ∷ []) first now) (sym feed) crash1 in
-    let crash3 : CrashSafe base new.feed [] new.marks first now = subst (λ (l : List ℕ). CrashSafe base new.feed [] l first now) (sym marks) crash2 in
+    (subst (λ (b : BaseData). Run (EachImage (λ image. OpensTo image
+    (replay base kept.feed) ⊎ OpensTo image b)) old now) (sym after) commits.moments)
+    (subst (λ (b : BaseData). EachImage (λ image. OpensTo image b) now.now.disk) (sym after) commits.whole) in
+    let crash2 : CrashSafe OpensTo base new.feed [] (kept.marks ++ moment_of now ∷ []) first now = subst (λ
+    (l : List EntryData). CrashSafe OpensTo base l [] (kept.marks ++ moment_of now ∷ []) first now)
+    (sym feed) crash1 in
+    let crash3 : CrashSafe OpensTo base new.feed [] new.marks first now = subst (λ
+    (l : List ℕ). CrashSafe OpensTo base new.feed [] l first now) (sym marks) crash2 in
     record {
-      crash = subst (λ (o : Option EntryData). CrashSafe base new.feed (doubts new.feed o) new.marks first now) (sym none) crash3;
+      crash = subst (λ (o : Option EntryData). CrashSafe OpensTo base new.feed (doubts new.feed o) new.marks first now)
+          (sym none) crash3;
       sound = subst IsSoundBase (sym whole) sound;
       rows_are = rows ∙ sym whole;
       no_doubt = λ _. none;
@@ -36,16 +47,27 @@ safe_grown base first old now kept new entry x safe going sound rows feed marks 
     }
 
 -- its write failed
-pub safe_doubted : {T E : Type 0} (base : BaseData) (first old now : Story) (kept new : KeptData) (entry : EntryData) (why : E) (at : ℕ) → IsSafe base first kept old → kept.halted ≡ None
-    → new.rows ≡ kept.rows → new.feed ≡ kept.feed → new.marks ≡ kept.marks → new.halted ≡ Some at → new.doubt ≡ Some entry
-    → CommitsSafely {T = T} {E = E} (replay base kept.feed) (apply (replay base kept.feed) entry) new.log new.rows (Err why) old now → IsSafe base first new now
+pub safe_doubted : {T E : Type 0} (base : BaseData) (first old now : Story) (kept new : KeptData) (entry : EntryData)
+    (why : E) (at : ℕ) → IsSafe base first kept old → kept.halted ≡ None
+    → new.rows ≡ kept.rows → new.feed ≡ kept.feed → new.marks ≡ kept.marks → new.halted ≡ Some at
+    → new.doubt ≡ Some entry
+    → CommitsSafely {T = T} {E = E} (replay base kept.feed) (apply (replay base kept.feed) entry) new.log new.rows
+    (Err why) old now → IsSafe base first new now
 safe_doubted base first old now kept new entry why at safe going rows feed marks halted doubt commits =
-    let crash0 : CrashSafe base kept.feed [] kept.marks first old = subst (λ (o : Option EntryData). CrashSafe base kept.feed (doubts kept.feed o) kept.marks first old) (safe.no_doubt going) safe.crash in
-    let crash1 : CrashSafe base kept.feed ((length kept.feed, entry) ∷ []) kept.marks first now = crash_doubted base kept.feed entry kept.marks first old now crash0 commits.moments in
-    let crash2 : CrashSafe base kept.feed (doubts kept.feed new.doubt) kept.marks first now = subst (λ (o : Option EntryData). CrashSafe base kept.feed (doubts kept.feed o) kept.marks first now) (sym doubt) crash1 in
-    let crash3 : CrashSafe base new.feed (doubts new.feed new.doubt) kept.marks first now = subst (λ (l : List EntryData). CrashSafe base l (doubts l new.doubt) kept.marks first now) (sym feed) crash2 in
+    let crash0 : CrashSafe OpensTo base kept.feed [] kept.marks first old = subst (λ
+    (o : Option EntryData). CrashSafe OpensTo base kept.feed (doubts kept.feed o) kept.marks first old)
+    (safe.no_doubt going) safe.crash in
+    let crash1 : CrashSafe OpensTo base kept.feed
+    ((length kept.feed, entry) ∷ []) kept.marks first now = crash_doubted base kept.feed entry kept.marks first old
+    now crash0 commits.moments in
+    let crash2 : CrashSafe OpensTo base kept.feed (doubts kept.feed new.doubt) kept.marks first now = subst (λ
+    (o : Option EntryData). CrashSafe OpensTo base kept.feed (doubts kept.feed o) kept.marks first now)
+    (sym doubt) crash1 in
+    let crash3 : CrashSafe OpensTo base new.feed (doubts new.feed new.doubt) kept.marks first now = subst (λ
+    (l : List EntryData). CrashSafe OpensTo base l (doubts l new.doubt) kept.marks first now) (sym feed) crash2 in
     record {
-      crash = subst (λ (l : List ℕ). CrashSafe base new.feed (doubts new.feed new.doubt) l first now) (sym marks) crash3;
+      crash = subst (λ (l : List ℕ). CrashSafe OpensTo base new.feed (doubts new.feed new.doubt) l first now)
+          (sym marks) crash3;
       sound = subst (λ (l : List EntryData). IsSoundBase (replay base l)) (sym feed) safe.sound;
       rows_are = ap base_with rows ∙ safe.rows_are ∙ ap (replay base) (sym feed);
       no_doubt = λ none. let both : Some at ≡ None = sym halted ∙ none in absurd cc;

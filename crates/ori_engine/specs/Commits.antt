@@ -2,23 +2,25 @@
 use Rattle.std.specs.Prelude.{◌≡◌, ◌⊎◌, ℕ, List, Option, None, Result, OnOk}
 use Rattle.ori_volume.specs.Story.{Story}
 use Rattle.ori_volume.specs.Runs.{Run, EachImage}
-use Rattle.ori_spec.specs.Base.{RecordData, BaseData, EntryData}
-use Rattle.ori_spec.specs.Apply.{replay}
-use Rattle.ori_spec.specs.Soundness.{IsSoundBase}
-use Rattle.ori_spec.specs.Stage.{Opens}
-use Rattle.ori_log.specs.Files.{files_data}
+use Rattle.ori_spec_data.specs.Base.{RecordData, BaseData, EntryData}
+use Rattle.ori_spec_data.specs.Apply.{replay}
+use Rattle.ori_spec_data.specs.Soundness.{IsSoundBase}
+use Rattle.ori_rows.specs.Stage.{OpensTo}
 use Rattle.ori_log.specs.declared.log.Log.{Log}
 use Rattle.ori_rows.specs.Rows.{base_with}
-use Rattle.ori_engine.specs.Crash.{CrashSafe, doubts}
+use Rattle.ori_spec_crash.specs.Crash.{CrashSafe, doubts}
 use Rattle.ori_engine.specs.Holding.{IsHeld}
 
--- At every moment a crash leaves the base from before a commit, or that after it. At Ok it leaves the second, whose rows are held.
-pub record CommitsSafely {T E : Type 0} (before after : BaseData) (log : Log) (rows : List (Option RecordData)) (result : Result T E) (old new : Story) : Type 0 where
-  pub moments : Run (EachImage (λ image. Opens (files_data image) before ⊎ Opens (files_data image) after)) old new
-  pub whole : OnOk result (EachImage (λ image. Opens (files_data image) after) new.now.disk)
+-- At every moment a crash leaves the base from before a commit, or that after it. At Ok it leaves the second, whose
+-- rows are held.
+pub record CommitsSafely {T E : Type 0} (before after : BaseData) (log : Log) (rows : List (Option RecordData))
+    (result : Result T E) (old new : Story) : Type 0 where
+  pub moments : Run (EachImage (λ image. OpensTo image before ⊎ OpensTo image after)) old new
+  pub whole : OnOk result (EachImage (λ image. OpensTo image after) new.now.disk)
   pub held : OnOk result (IsHeld log rows new.now.disk)
 
--- what an engine keeps of its opening: its rows and log, the feed and its marks, whether commits ended, and the entry in doubt
+-- what an engine keeps of its opening: its rows and log, the feed and its marks, whether commits ended, and the entry
+-- in doubt
 pub record KeptData : Type 0 where
   pub rows : List (Option RecordData)
   pub log : Log
@@ -27,10 +29,10 @@ pub record KeptData : Type 0 where
   pub halted : Option ℕ
   pub doubt : Option EntryData
 
--- From the first story to now a crash leaves the feed's prefixes, whose whole the rows are of; and while commits haven't ended the
--- volume holds them.
+-- From the first story to now a crash leaves the feed's prefixes, whose whole the rows are of; and while commits
+-- haven't ended the volume holds them.
 pub record IsSafe (base : BaseData) (first : Story) (kept : KeptData) (now : Story) : Type 0 where
-  pub crash : CrashSafe base kept.feed (doubts kept.feed kept.doubt) kept.marks first now
+  pub crash : CrashSafe OpensTo base kept.feed (doubts kept.feed kept.doubt) kept.marks first now
   pub sound : IsSoundBase (replay base kept.feed)
   pub rows_are : base_with kept.rows ≡ replay base kept.feed
   pub no_doubt : kept.halted ≡ None → kept.doubt ≡ None

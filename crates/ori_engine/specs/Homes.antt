@@ -1,6 +1,6 @@
 -- Pages as they are read one behind the other: those that no image has from their homes.
 use Rattle.std.specs.Prelude.{ℕ, zero, suc, ◌+◌, ◌-◌, List, [], ◌∷◌, ◌++◌, length}
-use Rattle.ori_spec.specs.Log.{ImageData, home_of}
+use Rattle.ori_log.specs.Log.{ImageData, home_of}
 
 -- so many homes from that page on
 abbrev pub homes_from : List ℕ → ℕ → ℕ → List (List ℕ)

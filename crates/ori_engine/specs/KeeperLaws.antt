@@ -1,11 +1,12 @@
 -- What every engine's state keeps.
-use Rattle.std.specs.Prelude.{◌≡◌, List, [], ◌∷◌, length, Option, Some, None, option_map, IsSome, Bool, true, false, suc, refl}
+use Rattle.std.specs.Prelude.{◌≡◌, List, [], ◌∷◌, length, Option, Some, None, option_map, IsSome, Bool, true, false}
+use Rattle.std.specs.Prelude.{suc, refl}
 use Rattle.std.proofs.Common.{ap, sym, ◌∙◌}
-use Rattle.ori_spec.specs.Base.{EntryData}
+use Rattle.ori_spec_data.specs.Base.{EntryData}
 use Rattle.ori_model.specs.declared.entry.Entry.{Entry}
 use Rattle.ori_model.specs.Data.{entry_of, entries_of}
 
-entries_length : (es : List Entry) → length (entries_of es) ≡ length es
+pub entries_length : (es : List Entry) → length (entries_of es) ≡ length es
 entries_length [] = refl
 entries_length (e ∷ es) = ap suc (entries_length es)
 

@@ -1,4 +1,3 @@
-pub mod Crash
 pub mod Holding
 pub mod Commits
 pub mod States

@@ -1,16 +1,16 @@
 -- The rows that pages are read as.
 use Rattle.std.specs.Prelude.{◌≡◌, ◌⊎◌, ℕ, ◌+◌, ◌<◌, ◌≤◌, List, [], ◌∷◌, length, get_or, Option, None}
 use Rattle.ori_bytes.specs.declared.limits.TheConstants.{MAX_PAGES}
-use Rattle.ori_spec.specs.Base.{RecordData, BaseData}
-use Rattle.ori_spec.specs.Spelling.{Spells}
-use Rattle.ori_spec.specs.Stage.{head_page, record_page, IsPageOf, StandFor}
+use Rattle.ori_spec_data.specs.Base.{RecordData, BaseData}
+use Rattle.ori_record.specs.Spelling.{Spells}
+use Rattle.ori_rows.specs.Stage.{head_page, record_page, IsPageOf, StandFor}
 use Rattle.ori_rows.specs.Rows.{AreAt}
 use Rattle.ori_table.specs.Kept.{AreOwn, AreKept}
 
 -- ---- the pages of a database
 
--- These rows are read from the pages that page 0 counts: page q + 1 has the record of position q or none, with the identifier of
--- its position.
+-- These rows are read from the pages that page 0 counts: page q + 1 has the record of position q or none, with the
+-- identifier of its position.
 pub record AreRowsOf (pages : List (List ℕ)) (rows : List (Option RecordData)) : Type 0 where
   pub within : length rows + 1 ≤ length pages
   pub head : get_or pages 0 [] ≡ head_page (length rows + 1)
@@ -37,13 +37,15 @@ pub record IsCountOf (pages : List (List ℕ)) (count : ℕ) : Type 0 where
 
 -- it counts none that are there
 abbrev pub HasNoCount : List (List ℕ) → Type 0
-HasNoCount pages = length pages ≤ MAX_PAGES → (count : ℕ) → 0 < count → count ≤ length pages → get_or pages 0 [] ≡ head_page count → ⊥
+HasNoCount pages = length pages ≤ MAX_PAGES → (count : ℕ) → 0 < count → count ≤ length pages
+    → get_or pages 0 [] ≡ head_page count → ⊥
 
 -- ---- the pages of positions
 
 -- the page of a position, with a record or without one
 abbrev pub IsRecordPage : List ℕ → Type 0
-IsRecordPage page = (page ≡ record_page []) ⊎ ((bytes : List ℕ) × (r : RecordData) × Spells bytes r × (page ≡ record_page bytes))
+IsRecordPage page = (page ≡ record_page [])
+    ⊎ ((bytes : List ℕ) × (r : RecordData) × Spells bytes r × (page ≡ record_page bytes))
 
 -- the page has this record or none, which is as one at that position may be
 pub record IsRowAt (place : ℕ) (page : List ℕ) (row : Option RecordData) : Type 0 where

@@ -1,15 +1,22 @@
 -- What an engine keeps, as plain data, and the state that it stands for.
-use Rattle.std.specs.Prelude.{◌≡◌, ◌⊎◌, ℕ, ◌+◌, ◌<◌, ◌≤◌, length, Option, Some, None, option_map, vec_len, vec_capacity, ⊤}
+use Rattle.std.specs.Prelude.{◌≡◌, ◌⊎◌, ℕ, ◌+◌, ◌<◌, ◌≤◌, List, [], ◌∷◌, ◌++◌, length, Option, Some, None, option_map}
+use Rattle.std.specs.Prelude.{Result, Ok, Err, vec_len, vec_capacity, ⊤}
 use Rattle.ori_bytes.specs.declared.limits.TheConstants.{MAX_FEED_ENTRIES, MAX_FEED_BYTES}
 use Rattle.ori_volume.specs.Causes.{Rose}
 use Rattle.ori_volume.specs.Story.{Story}
-use Rattle.ori_spec.specs.Base.{BaseData, TxData, commit}
-use Rattle.ori_spec.specs.Apply.{fresh}
-use Rattle.ori_spec.specs.Keeping.{OpeningData, StateData, DecisionData, device, busy, damaged, bytes_with}
+use Rattle.ori_spec_data.specs.Base.{BaseData, TxData, commit}
+use Rattle.ori_spec_data.specs.Apply.{fresh}
+use Rattle.ori_spec_data.specs.Keeping.{OpeningData, StateData, DecisionData, fault, device, busy, damaged, bytes_with}
+use Rattle.ori_spec_data.specs.Keeping.{DecidesCommit}
+use Rattle.ori_log.specs.Log.{ImageData}
+use Rattle.ori_log.specs.Appending.{Appends}
+use Rattle.ori_log.specs.declared.log.Log.{Log}
+use Rattle.ori_model.specs.declared.fault.CommitFault.{CommitFault}
 use Rattle.ori_model.specs.Data.{entry_of, entries_of}
 use Rattle.ori_rows.specs.Rows.{base_with}
 use Rattle.ori_table.specs.Kept.{rows_of}
 use Rattle.ori_table.specs.Staged.{IsStaged}
+use Rattle.ori_decide.specs.Told.{told}
 use Rattle.ori_engine.specs.declared.kept.Kept.{Kept}
 use Rattle.ori_engine.specs.declared.prepared.Prepared.{Prepared}
 use Rattle.ori_engine.specs.Commits.{KeptData, IsSafe}
@@ -29,12 +36,19 @@ state_of k opening = record {
   base = Some (base_with (rows_of k.table.0));
   feed = Some (entries_of k.feed.items);
   in_use = Some (length (rows_of k.table.0) + 1);
-  room = Some k.room;
+  limit = Some k.room;
   front = length k.feed.items;
   halted = k.halted;
   doubt = option_map entry_of k.doubt;
   opening = opening;
 }
+
+-- nothing has been committed, and nothing has failed
+pub record IsNewlyKept (k : Kept) : Type 0 where
+  pub feed : k.feed.items ≡ []
+  pub marks : k.marks.items ≡ []
+  pub halted : k.halted ≡ None
+  pub doubt : k.doubt ≡ None
 
 -- nothing stands against the transaction so far
 pub record IsAskedOf (k : Kept) (tx : TxData) : Type 0 where
@@ -58,12 +72,20 @@ pub record HasRoom (more : ℕ) (k : Kept) : Type 0 where
 
 -- what is safe stays so
 abbrev pub StaysSafe : KeptData → KeptData → Story → Story → Type 0
-StaysSafe old_kept new_kept old new = (base : BaseData) (first : Story) → IsSafe base first old_kept old → IsSafe base first new_kept new
+StaysSafe old_kept new_kept old new = (base : BaseData) (first : Story) → IsSafe base first old_kept old
+    → IsSafe base first new_kept new
 
--- commits ended at none of these calls, or at this one, by a fault of the log, when so many calls had failed
+-- Commits go on as before, and no call on the log failed; or they ended here, by one that did, when so many calls had
+-- failed.
 abbrev pub HaltsBy : Option ℕ → Option ℕ → ℕ → ℕ → ℕ → ℕ → Type 0
 HaltsBy old new faults_old faults_new log_old log_new =
-    (new ≡ old) ⊎ ((old ≡ None) × (new ≡ Some faults_new) × Rose faults_old faults_new × Rose log_old log_new)
+    ((new ≡ old) × (log_new ≡ log_old))
+    ⊎ ((old ≡ None) × (new ≡ Some faults_new) × Rose faults_old faults_new × Rose log_old log_new)
+
+-- an entry that was accepted has its mark, the moment of the return, and no other answer gives one
+abbrev pub IsMarked : {T E : Type 0} → List ℕ → List ℕ → ℕ → Result T E → Type 0
+IsMarked old new moment (Ok _) = new ≡ old ++ moment ∷ []
+IsMarked old new moment (Err _) = new ≡ old
 
 -- Rows in memory are never read from a device, no turn is waited for, and no page of theirs is damaged.
 abbrev pub IsInside : DecisionData → Type 0
@@ -71,3 +93,16 @@ IsInside device = ⊥
 IsInside (busy turn) = ⊥
 IsInside (damaged page) = ⊥
 IsInside decision = ⊤
+
+-- A commit is refused so, whatever the opening was, and nothing has changed; no write failed.
+pub record Refuses (k : Kept) (session : ℕ) (tx : TxData) (why : CommitFault) : Type 0 where
+  pub decides : (opening : OpeningData) → DecidesCommit (state_of k opening) session tx (told why) (state_of k opening)
+  pub no_fault : told why ≡ fault → ⊥
+  pub inside : IsInside (told why)
+
+-- ---- what a commit writes
+
+-- The images of a transaction were written as one record of the log, or not; those of none weren't, and nothing was.
+abbrev pub Writes : {T E : Type 0} → Log → Log → List ImageData → Result T E → Story → Story → Type 0
+Writes old_log new_log [] result old new = (new_log ≡ old_log) × (new ≡ old)
+Writes old_log new_log (image ∷ images) result old new = Appends old_log new_log (image ∷ images) result old new

@@ -1,19 +1,21 @@
 // The engine, as statements read it and commit to it.
-ghost use Rattle.std.specs.Prelude.{◌≡◌, ◌+◌, ◌≤◌, ◌↔◌, ℕ, length, None, Ok, Err, IsTrue, IsSome, IfOk, IfErr, OnOk, IfSome};
+ghost use Rattle.std.specs.Prelude.{◌≡◌, ◌+◌, ◌<◌, ◌≤◌, ◌↔◌, ℕ, length, None};
+ghost use Rattle.std.specs.Prelude.{Some, IsTrue, IsSome, IfOk, IfErr, OnOk, IfSome};
 ghost use Rattle.std.specs.Option.{ForSome};
 ghost use Rattle.ori_volume.specs.Causes.{Rose};
-ghost use Rattle.ori_volume.specs.Story.{Tells};
-ghost use Rattle.ori_spec.specs.Base.{BaseData, initial_base};
-ghost use Rattle.ori_spec.specs.Stage.{IsDatabase};
-ghost use Rattle.ori_spec.specs.Keeping.{counted, raised_count};
+ghost use Rattle.ori_volume.specs.Story.{Story, Tells};
+ghost use Rattle.ori_spec_data.specs.Base.{BaseData, initial_base};
+ghost use Rattle.ori_rows.specs.Stage.{IsDatabase};
+ghost use Rattle.ori_spec_data.specs.Keeping.{counted, raised_count};
 ghost use Rattle.ori_log.specs.Files.{files_data};
-ghost use Rattle.ori_rows.specs.Rows.{AreAt, base_with};
+ghost use Rattle.ori_rows.specs.Rows.{base_with};
 ghost use Rattle.ori_table.specs.Kept.{rows_of};
-ghost use Rattle.ori_table.specs.Told.{told};
+ghost use Rattle.ori_decide.specs.Told.{told};
 
+use crate::StartFault;
+use crate::kept::Kept;
 use crate::opened::Opened;
 use crate::opening::open_kept;
-use crate::{Kept, StartFault};
 use ori_bytes::{Causes, NumberList, Rid};
 use ori_model::{
     CommitFault, Done, Entry, EntryList, Keeper, ReadFault, Reader, Schema, Stored, Tx,
@@ -21,7 +23,8 @@ use ori_model::{
 use ori_volume::Volume;
 use std::alloc::Global;
 
-/// A volume that was opened, what is kept of the opening, and the counts of what was read and answered.
+/// A volume that was opened, what is kept of the opening, and the counts of what was read and answered. Callers see it
+/// by what it means as a `Reader` and a `Keeper`: its state, and `sound`.
 #[derive(Drop)]
 pub struct Engine<V: Volume> {
     volume: V,
@@ -31,8 +34,10 @@ pub struct Engine<V: Volume> {
     opened: Opened,
     ghost later: { opened.faults ≤ V.faults volume },
     ghost log_later: { opened.log_faults ≤ V.log_faults volume },
-    ghost halts: { ForSome kept.halted (λ at. Rose opened.faults at × (at ≤ V.faults volume) × Rose opened.log_faults (V.log_faults volume)) },
-    ghost faultless: { kept.halted ≡ None → causes.fault ≡ 0 },
+    ghost halts: { ForSome kept.halted (λ at. Rose opened.faults at × (at ≤ V.faults volume)
+        × Rose opened.log_faults (V.log_faults volume)) },
+    ghost goes_on: { kept.halted ≡ None → V.log_faults volume ≡ opened.log_faults },
+    ghost faulted: { 0 < causes.fault → Rose opened.faults (V.faults volume) },
     ghost inside: { (causes.device ≡ 0) × (causes.busy ≡ 0) × (causes.damaged ≡ 0) },
 }
 
@@ -54,30 +59,39 @@ pub struct Ended<V: Volume> {
 }
 
 impl<V: Volume> Engine<V> {
-    ghost use Rattle.ori_engine.specs.States.{kept_of};
-    ghost use Rattle.ori_engine.specs.Openings.{Finds, IsStarted, IsFresh, SafeSince, LeavesBase, IsHaltedSince};
+    ghost use Rattle.std.specs.Prelude.{Option, option_map};
+    ghost use Rattle.ori_model.specs.Data.{entry_of, entries_of};
+    ghost use Rattle.ori_engine.specs.Openings.{Finds, IsStarted, IsFresh, LeavesBase, Survives, IsOpenedSince};
+    ghost use Rattle.ori_engine.specs.Openings.{IsOpenedAt, no_causes, IsKeptState, IsCounted};
 
-    /// Opens a volume. Its log is attached, whose images and the homes behind them give the pages; the files of an empty volume are
-    /// made. `NotADatabase` comes exactly where the files aren't of the form, and they are as they were then. Whatever the answer,
-    /// and whenever a crash comes, the files open to what they opened to before.
+    /// Opens a volume. Its log is attached, whose images and the homes behind them give the pages; the files of an
+    /// empty volume are made. `NotADatabase` comes exactly where the files aren't of the form, and they are as they
+    /// were then. Whatever the answer, and whenever a crash comes, the files open to what they opened to before.
     pub fn start(alloc: Global, volume: V) -> Result<Engine<V>, Unopened<V>>
-        ensures found { IfOk result (λ e. (base : BaseData) (room : ℕ) → Finds (V.files volume) base room → IsStarted e.kept base room) }
-        ensures fresh { IfOk result (λ e. IsFresh e.kept) }
+        ensures found { IfOk result (λ e. (base : BaseData) (room : ℕ) → Finds (V.files volume) base room
+            → IsStarted base room (⟦<Engine<V> as Reader>⟧.state e)) }
+        ensures fresh { IfOk result (λ e. IsFresh (⟦<Engine<V> as Reader>⟧.state e)) }
         ensures database { OnOk result (IfSome (V.files volume) (λ fs. IsDatabase (files_data fs))) }
-        ensures not_a_database { IfErr result (λ u. u.fault ≡ StartFault.NotADatabase → IfSome (V.files volume) (λ fs. IsDatabase (files_data fs) → ⊥)) }
-        ensures refused { IfErr result (λ u. u.fault ≡ StartFault.NotADatabase → V.files u.volume ≡ V.files volume) }
-        ensures safe { IfOk result (λ e. Tells (SafeSince (kept_of e.kept)) (V.story volume) (V.story e.volume)) }
+        ensures not_a_database { IfErr result (λ u. u.fault ≡ StartFault.NotADatabase
+            → IfSome (V.files volume) (λ fs. IsDatabase (files_data fs) → ⊥)) }
+        ensures refused { IfErr result (λ u. u.fault ≡ StartFault.NotADatabase
+            → V.files u.volume ≡ V.files volume) }
+        ensures sound { IfOk result (λ e. ⟦<Engine<V> as Reader>⟧.sound e (V.story volume)) }
         ensures left { IfErr result (λ u. Tells LeavesBase (V.story volume) (V.story u.volume)) }
-        ensures since { IfOk result (λ e. (V.faults volume ≤ e.opened.faults) × (V.log_faults volume ≤ e.opened.log_faults)) }
-        ensures later { IfErr result (λ u. (V.faults volume ≤ V.faults u.volume) × (V.log_faults volume ≤ V.log_faults u.volume)) }
-        ensures fault { IfErr result (λ u. u.fault ≡ StartFault.Fault → Rose (V.faults volume) (V.faults u.volume)) }
-        ensures in_use { IfOk result (λ e. e.opened.in_use ≡ length (rows_of e.kept.table.0) + 1) }
-        ensures counted { IfOk result (λ e. (e.opened.faults ≡ V.faults e.volume) × (e.opened.log_faults ≡ V.log_faults e.volume)) }
-        ensures moments { IfOk result (λ e. (e.opened.entry ≡ V.moment volume) × (e.opened.moment ≡ V.moment e.volume)) }
-        ensures unread { IfOk result (λ e. (e.fetched ≡ 0) × (e.causes.fault ≡ 0)) }
+        ensures since { IfOk result (λ e. IsOpenedSince (V.faults volume) (V.log_faults volume)
+            (⟦<Engine<V> as Reader>⟧.state e).opening) }
+        ensures at_end { IfOk result (λ e. IsOpenedAt (V.faults e.volume) (V.log_faults e.volume) (V.moment e.volume)
+            (⟦<Engine<V> as Reader>⟧.state e).opening) }
+        ensures in_use { IfOk result (λ e. (⟦<Engine<V> as Reader>⟧.state e).opening.in_use
+            ≡ (⟦<Engine<V> as Reader>⟧.state e).in_use) }
+        ensures later { IfErr result (λ u. V.faults volume ≤ V.faults u.volume) }
+        ensures log_later { IfErr result (λ u. V.log_faults volume ≤ V.log_faults u.volume) }
+        ensures fault { IfErr result (λ u. u.fault ≡ StartFault.Fault
+            → Rose (V.faults volume) (V.faults u.volume)) }
+        ensures fetched { IfOk result (λ e. ⟦<Engine<V> as Reader>⟧.fetched e ≡ 0) }
+        ensures causes { IfOk result (λ e. ⟦<Engine<V> as Reader>⟧.causes e ≡ no_causes) }
     {
         let mut volume = volume;
-        let entry = volume.moment();
         let kept = match open_kept(alloc, &mut volume) {
             Ok(kept) => kept,
             Err(fault) => return Err(Unopened { fault, volume }),
@@ -87,7 +101,6 @@ impl<V: Volume> Engine<V> {
             faults: volume.faults(),
             log_faults: volume.log_faults(),
             moment: volume.moment(),
-            entry,
         };
         Ok(Engine {
             volume,
@@ -103,43 +116,49 @@ impl<V: Volume> Engine<V> {
         })
     }
 
-    /// What holds of every engine: commits ended only at a failure of the log since the opening, no commit was answered Fault
-    /// before, and no answer had a cause that pages in memory can't have. An entry is in doubt where they ended, and each row stands
-    /// at its place.
+    /// What holds of every engine's state: it is told, an entry is in doubt only where commits have ended, and no
+    /// answer had a cause that pages in memory can't have.
     pub fn keeps(&self)
-        ensures later { self.now.opened.faults ≤ V.faults self.now.volume }
-        ensures log_later { self.now.opened.log_faults ≤ V.log_faults self.now.volume }
-        ensures halted { IsHaltedSince self.now.opened.faults (V.faults self.now.volume) self.now.opened.log_faults (V.log_faults self.now.volume) self.now.kept.halted }
-        ensures faultless { self.now.kept.halted ≡ None → self.now.causes.fault ≡ 0 }
-        ensures device { self.now.causes.device ≡ 0 }
-        ensures busy { self.now.causes.busy ≡ 0 }
-        ensures damaged { self.now.causes.damaged ≡ 0 }
-        ensures doubted { IsSome self.now.kept.halted → IsSome self.now.kept.doubt }
-        ensures at { AreAt 0 (rows_of self.now.kept.table.0) }
+        ensures { IsKeptState (⟦<Engine<V> as Reader>⟧.state self.now) (⟦<Engine<V> as Reader>⟧.causes self.now) }
     {
         self.kept.table.keeps();
     }
 
+    /// What holds of every engine's volume: no count of faults is below that of the opening's end, commits have ended
+    /// exactly where a write, cut or sync of the log has failed since, and Fault was answered only where a call failed.
+    pub fn keeps_counts(&self)
+        ensures { IsCounted (⟦<Engine<V> as Reader>⟧.state self.now) (⟦<Engine<V> as Reader>⟧.causes self.now)
+            (V.faults self.now.volume) (V.log_faults self.now.volume) }
+    {}
+
     /// Whether the database is the initial one.
     pub fn is_initial(&self) -> bool
-        ensures { IsTrue result ↔ (base_with (rows_of self.now.kept.table.0) ≡ initial_base) }
+        ensures { IsTrue result ↔ ((⟦<Engine<V> as Reader>⟧.state self.now).base ≡ Some initial_base) }
     {
         self.kept.table.len() == 0
     }
 
     /// The entries since the opening.
     pub fn feed(&self) -> &[Entry]
-        ensures { result.now ≡ self.now.kept.feed.items }
+        ensures { (⟦<Engine<V> as Reader>⟧.state self.now).feed ≡ Some (entries_of result.now) }
     {
         self.kept.feed.as_slice()
     }
 
-    /// Gives the volume back, and what was kept.
+    /// Gives the volume back, and what was kept. Commits have ended exactly where a write, cut or sync of the log has
+    /// failed since the opening, and Fault was answered only where a call failed. Since any moment for which the engine
+    /// is sound a crash leaves a prefix of the feed with each entry that has its mark by then, or all of it and the
+    /// entry in doubt.
     pub fn end(self) -> Ended<V>
         ensures volume { result.volume ≡ self.volume }
-        ensures feed { result.feed ≡ self.kept.feed.items }
         ensures marks { result.marks ≡ self.kept.marks.items }
-        ensures doubt { result.doubt ≡ self.kept.doubt }
+        ensures feed { (⟦<Engine<V> as Reader>⟧.state self).feed ≡ Some (entries_of result.feed) }
+        ensures doubt { (⟦<Engine<V> as Reader>⟧.state self).doubt ≡ option_map entry_of result.doubt }
+        ensures counts { IsCounted (⟦<Engine<V> as Reader>⟧.state self) (⟦<Engine<V> as Reader>⟧.causes self)
+            (V.faults result.volume) (V.log_faults result.volume) }
+        ensures crash { (first : Option Story) → ⟦<Engine<V> as Reader>⟧.sound self first
+            → Tells (Survives (entries_of result.feed) (option_map entry_of result.doubt) result.marks) first
+            (V.story result.volume) }
     {
         let Engine { volume, kept, .. } = self;
         let Kept {
@@ -202,7 +221,7 @@ fn counts(causes: Causes, fault: &CommitFault) -> Causes
 
 impl<V: Volume> Reader for Engine<V> {
     ghost use Rattle.std.specs.Prelude.{Some};
-    ghost use Rattle.ori_spec.specs.Views.{view_of, nothing_below};
+    ghost use Rattle.ori_spec_data.specs.Views.{view_of, nothing_below};
     ghost use Rattle.ori_engine.specs.States.{kept_of, state_of};
     ghost use Rattle.ori_engine.specs.Openings.{opening_of, SafeSince};
 
@@ -245,11 +264,18 @@ impl<V: Volume> Reader for Engine<V> {
 
 impl<V: Volume> Keeper for Engine<V> {
     ghost use Rattle.std.specs.Prelude.{refl};
+    ghost use Rattle.ori_spec_data.specs.Base.{asks_commit};
+    ghost use Rattle.ori_spec_data.specs.Apply.{IsFormed};
+    ghost use Rattle.ori_spec_data.specs.Keeping.{Decides, fault};
+    ghost use Rattle.ori_model.specs.Data.{tx_of};
+    ghost use Rattle.ori_model.specs.Decisions.{decision_of};
+    ghost use Rattle.ori_model.specs.Standing.{Endures};
+    ghost use Rattle.ori_engine.specs.States.{IsMarked};
     ghost use Rattle.ori_engine.specs.KeeperLaws.{front_is, doubt_is};
 
     ghost shows_base = { λ e. refl };
 
-    ghost tells_all = { λ e. record { feed = λ told. refl; room = λ told. refl } };
+    ghost tells_all = { λ e. record { feed = λ told. refl; replays = tt } };
 
     ghost counts_feed = { λ e feed is. front_is e.kept.feed.items feed is };
 
@@ -265,7 +291,20 @@ impl<V: Volume> Keeper for Engine<V> {
         self.kept.halted
     }
 
-    fn commit(&mut self, session: u8, tx: &Tx) -> Result<Done, CommitFault> {
+    fn commit(&mut self, session: u8, tx: &Tx) -> Result<Done, CommitFault>
+        requires { IsFormed (tx_of tx.now) }
+        ensures decided { Decides (⟦<Engine<V> as Reader>⟧.state self.old) session (asks_commit (tx_of tx.now))
+            (decision_of result) (⟦<Engine<V> as Reader>⟧.state self.new) }
+        ensures endures { Endures ⟦<Engine<V> as Reader>⟧.sound ⟦<Engine<V> as Reader>⟧.lent
+            ⟦<Engine<V> as Reader>⟧.below self.old self.new }
+        ensures fetched { ⟦<Engine<V> as Reader>⟧.fetched self.new ≡ ⟦<Engine<V> as Reader>⟧.fetched self.old }
+        ensures causes { ⟦<Engine<V> as Reader>⟧.causes self.new
+            ≡ counted (decision_of result) (⟦<Engine<V> as Reader>⟧.causes self.old) }
+        ensures marked { IsMarked self.old.kept.marks.items self.new.kept.marks.items (V.moment self.new.volume)
+            result }
+        ensures fault_told { decision_of result ≡ fault
+            → Rose (V.faults self.old.volume) (V.faults self.new.volume) }
+    {
         match self.kept.commit(&mut self.volume, session, tx) {
             Ok(done) => Ok(done),
             Err(fault) => {

@@ -1,11 +1,13 @@
 // What an engine keeps of its opening.
-ghost use Rattle.std.specs.Prelude.{◌≡◌, ◌+◌, ◌≤◌, ◌<◌, ◌⊎◌, ◌++◌, [], ◌∷◌, ℕ, None, Some, IsSome, length, vec_len, vec_capacity, IfOk, IfErr, OnOk, OnErr, Err, Ok};
-ghost use Rattle.ori_spec.specs.Weighing.{feed_bytes};
+ghost use Rattle.std.specs.Prelude.{◌≡◌, ◌+◌, ◌-◌, ◌≤◌, ◌<◌, ◌++◌, [], ◌∷◌, ℕ};
+ghost use Rattle.std.specs.Prelude.{None, IsSome, length, vec_len, vec_capacity, IfOk, IfErr, OnOk};
+ghost use Rattle.ori_spec_data.specs.Weighing.{feed_bytes};
 ghost use Rattle.ori_log.specs.Appending.{room_of};
 ghost use Rattle.ori_model.specs.Data.{entries_of};
 
 use crate::prepared::Prepared;
 use crate::sizes::bytes_behind;
+use crate::writing::write_images;
 use ori_bytes::NoMemory;
 use ori_bytes::limits::{MAX_FEED_BYTES, MAX_FEED_ENTRIES};
 use ori_log::{Log, LogFault};
@@ -14,10 +16,10 @@ use ori_table::{Outcome, Staged, Table};
 use ori_volume::Volume;
 use std::alloc::Global;
 
-/// The rows, the log, the entries since the opening with their bytes and the moments at which they were acknowledged, the count of
-/// faults at which commits ended, and the entry whose write failed.
+/// The rows, the log, the entries since the opening with their bytes and the moments at which they were acknowledged,
+/// the count of faults at which commits ended, and the entry whose write failed.
 #[derive(Drop)]
-pub struct Kept {
+pub(crate) struct Kept {
     pub table: Table,
     pub log: Log,
     /// The bytes that the log has room for; behind a failed write those that it had before.
@@ -29,26 +31,24 @@ pub struct Kept {
     pub doubt: Option<Entry>,
     ghost counted: { bytes ≡ feed_bytes (entries_of feed.items) },
     ghost doubts: { IsSome doubt → IsSome halted },
-    ghost doubted: { IsSome halted → IsSome doubt },
     ghost roomy: { halted ≡ None → room ≡ room_of log },
 }
 
 impl Kept {
+    ghost use Rattle.ori_bytes.specs.declared.limits.TheConstants.{MAX_PAGES};
     ghost use Rattle.ori_volume.specs.Causes.{Rose};
     ghost use Rattle.ori_volume.specs.Story.{Tells};
-    ghost use Rattle.ori_spec.specs.Apply.{IsFormed};
-    ghost use Rattle.ori_spec.specs.Keeping.{OpeningData, Decides, fault, bytes_with};
-    ghost use Rattle.ori_spec.specs.Weighing.{entry_bytes};
+    ghost use Rattle.ori_spec_data.specs.Apply.{IsFormed};
+    ghost use Rattle.ori_spec_data.specs.Keeping.{OpeningData, DecidesCommit, fault, bytes_with};
+    ghost use Rattle.ori_spec_data.specs.Weighing.{entry_bytes};
     ghost use Rattle.ori_model.specs.Data.{tx_of, entry_of};
     ghost use Rattle.ori_model.specs.Decisions.{decision_of};
-    ghost use Rattle.ori_table.specs.Told.{told};
     ghost use Rattle.ori_table.specs.Kept.{rows_of};
     ghost use Rattle.ori_table.specs.Data.{outcomes_data, CanLay};
     ghost use Rattle.ori_rows.specs.Outcomes.{put_rows};
     ghost use Rattle.ori_table.specs.Staged.{IsStaged};
-    ghost use Rattle.ori_bytes.specs.declared.limits.TheConstants.{MAX_PAGES};
-    ghost use Rattle.ori_engine.specs.Openings.{IsFresh};
-    ghost use Rattle.ori_engine.specs.States.{kept_of, state_of, IsAskedOf, IsPrepared, HasRoom, StaysSafe, HaltsBy, IsInside};
+    ghost use Rattle.ori_engine.specs.States.{kept_of, state_of, IsNewlyKept, IsAskedOf, IsPrepared, HasRoom};
+    ghost use Rattle.ori_engine.specs.States.{Refuses, StaysSafe, HaltsBy, IsMarked, IsInside};
 
     /// What is kept of a volume whose log was attached and whose rows were read: nothing has been committed.
     pub(crate) fn begin(alloc: Global, table: Table, log: Log) -> Kept
@@ -56,7 +56,7 @@ impl Kept {
         ensures few { length (rows_of result.table.0) < MAX_PAGES }
         ensures log { result.log ≡ log }
         ensures room { result.room ≡ room_of log }
-        ensures fresh { IsFresh result }
+        ensures fresh { IsNewlyKept result }
     {
         table.keeps();
         let room = log.room();
@@ -74,9 +74,7 @@ impl Kept {
 
     // Commits have not ended.
     fn check_going(&self, session: u8, tx: &Tx) -> Result<(), CommitFault>
-        ensures refused { IfErr result (λ why. (opening : OpeningData) → Decides (state_of self.now opening) session (tx_of tx.now) (told why) (state_of self.now opening)) }
-        ensures not_fault { IfErr result (λ why. told why ≡ fault → ⊥) }
-        ensures inside { IfErr result (λ why. IsInside (told why)) }
+        ensures refused { IfErr result (Refuses self.now session (tx_of tx.now)) }
         ensures going { OnOk result (self.now.halted ≡ None) }
     {
         match self.halted {
@@ -88,10 +86,9 @@ impl Kept {
     // The feed has room for the transaction's entry; what its bytes are with it.
     fn check_feed(&self, session: u8, tx: &Tx) -> Result<u64, CommitFault>
         requires { self.now.halted ≡ None }
-        ensures refused { IfErr result (λ why. (opening : OpeningData) → Decides (state_of self.now opening) session (tx_of tx.now) (told why) (state_of self.now opening)) }
-        ensures not_fault { IfErr result (λ why. told why ≡ fault → ⊥) }
-        ensures inside { IfErr result (λ why. IsInside (told why)) }
-        ensures asked { IfOk result (λ n. (n ≡ bytes_with (entries_of self.now.feed.items) (tx_of tx.now)) × IsAskedOf self.now (tx_of tx.now)) }
+        ensures refused { IfErr result (Refuses self.now session (tx_of tx.now)) }
+        ensures asked { IfOk result (λ n. (n ≡ bytes_with (entries_of self.now.feed.items) (tx_of tx.now))
+            × IsAskedOf self.now (tx_of tx.now)) }
     {
         let entries = self.feed.len() as u64;
         let bytes = bytes_behind(self.bytes, tx.changes.as_slice())?;
@@ -107,9 +104,7 @@ impl Kept {
     // What a commit needs before it writes, or why it is refused.
     fn prepare(&self, alloc: Global, session: u8, tx: &Tx) -> Result<Prepared, CommitFault>
         requires { IsFormed (tx_of tx.now) }
-        ensures refused { IfErr result (λ why. (opening : OpeningData) → Decides (state_of self.now opening) session (tx_of tx.now) (told why) (state_of self.now opening)) }
-        ensures not_fault { IfErr result (λ why. told why ≡ fault → ⊥) }
-        ensures inside { IfErr result (λ why. IsInside (told why)) }
+        ensures refused { IfErr result (Refuses self.now session (tx_of tx.now)) }
         ensures prepared { IfOk result (IsPrepared self.now session (tx_of tx.now)) }
     {
         self.check_going(session, tx)?;
@@ -133,9 +128,7 @@ impl Kept {
     fn stage(&self, alloc: Global, session: u8, tx: &Tx) -> Result<Staged, CommitFault>
         requires formed { IsFormed (tx_of tx.now) }
         requires asked { IsAskedOf self.now (tx_of tx.now) }
-        ensures refused { IfErr result (λ why. (opening : OpeningData) → Decides (state_of self.now opening) session (tx_of tx.now) (told why) (state_of self.now opening)) }
-        ensures not_fault { IfErr result (λ why. told why ≡ fault → ⊥) }
-        ensures inside { IfErr result (λ why. IsInside (told why)) }
+        ensures refused { IfErr result (Refuses self.now session (tx_of tx.now)) }
         ensures staged { IfOk result (IsStaged (rows_of self.now.table.0) (tx_of tx.now)) }
     {
         self.table.stage(alloc, tx)
@@ -185,12 +178,16 @@ impl Kept {
         requires formed { IsFormed (tx_of tx.now) }
         requires prepared { IsPrepared self.old session (tx_of tx.now) prepared }
         requires room { HasRoom (length prepared.staged.outcomes.items) self.old }
-        ensures decided { (opening : OpeningData) → Decides (state_of self.old opening) session (tx_of tx.now) (decision_of result) (state_of self.new opening) }
-        ensures crash { Tells (StaysSafe (kept_of self.old) (kept_of self.new)) (V.story volume.old) (V.story volume.new) }
+        ensures decided { (opening : OpeningData) → DecidesCommit (state_of self.old opening) session (tx_of tx.now)
+            (decision_of result) (state_of self.new opening) }
+        ensures crash { Tells (StaysSafe (kept_of self.old) (kept_of self.new)) (V.story volume.old)
+            (V.story volume.new) }
+        ensures marked { IsMarked self.old.marks.items self.new.marks.items (V.moment volume.new) result }
         ensures faults { V.faults volume.old ≤ V.faults volume.new }
         ensures log_faults { V.log_faults volume.old ≤ V.log_faults volume.new }
-        ensures halts { HaltsBy self.old.halted self.new.halted (V.faults volume.old) (V.faults volume.new) (V.log_faults volume.old) (V.log_faults volume.new) }
-        ensures fault_told { decision_of result ≡ fault → IsSome self.new.halted × IsSome self.new.doubt }
+        ensures halts { HaltsBy self.old.halted self.new.halted (V.faults volume.old) (V.faults volume.new)
+            (V.log_faults volume.old) (V.log_faults volume.new) }
+        ensures fault_told { decision_of result ≡ fault → Rose (V.faults volume.old) (V.faults volume.new) }
         ensures inside { IsInside (decision_of result) }
     {
         let Prepared {
@@ -205,10 +202,8 @@ impl Kept {
             ..
         } = staged;
         self.table.keeps();
-        // Each content is a whole page.
-        let _count = images.len();
         let place = self.feed.len() as u64;
-        if let Err(fault) = self.log.append(volume, &images) {
+        if let Err(fault) = write_images(&mut self.log, volume, &images) {
             if let LogFault::LogFull { need, room } = fault {
                 return Err(CommitFault::LogFull { need, room });
             }
@@ -221,11 +216,12 @@ impl Kept {
         Ok(Done { place, fresh })
     }
 
-    /// Commits a session's transaction by one record of the log, or says why not. It is refused, in this order: Halted exactly
-    /// where commits have ended; FeedFull exactly where the feed is full; as the base refuses it; LogFull exactly where the log
-    /// needs more bytes than it has room for. Fault comes only where the log failed in this call, which ends commits and leaves the
-    /// entry in doubt. After every other refusal nothing has changed. Memory is also wanting for a transaction that makes a record of
-    /// class E, for one with values of the kinds that no statement writes yet, and for one without changes.
+    /// Commits a session's transaction by one record of the log, or says why not; one without changes joins without a
+    /// record. It is refused, in this order: Halted exactly where commits have ended; FeedFull exactly where the feed
+    /// is full; as the base refuses it; LogFull exactly where the log needs more bytes than it has room for. Fault
+    /// comes only where a call of the volume failed in this call; where it was one of the log, commits have ended, and
+    /// the entry may be in doubt. After every other refusal nothing has changed. An accepted entry's mark is the moment
+    /// of the return.
     pub fn commit<V: Volume>(
         &mut self,
         volume: &mut V,
@@ -233,12 +229,16 @@ impl Kept {
         tx: &Tx,
     ) -> Result<Done, CommitFault>
         requires { IsFormed (tx_of tx.now) }
-        ensures decided { (opening : OpeningData) → Decides (state_of self.old opening) session (tx_of tx.now) (decision_of result) (state_of self.new opening) }
-        ensures crash { Tells (StaysSafe (kept_of self.old) (kept_of self.new)) (V.story volume.old) (V.story volume.new) }
+        ensures decided { (opening : OpeningData) → DecidesCommit (state_of self.old opening) session (tx_of tx.now)
+            (decision_of result) (state_of self.new opening) }
+        ensures crash { Tells (StaysSafe (kept_of self.old) (kept_of self.new)) (V.story volume.old)
+            (V.story volume.new) }
+        ensures marked { IsMarked self.old.marks.items self.new.marks.items (V.moment volume.new) result }
         ensures faults { V.faults volume.old ≤ V.faults volume.new }
         ensures log_faults { V.log_faults volume.old ≤ V.log_faults volume.new }
-        ensures halts { HaltsBy self.old.halted self.new.halted (V.faults volume.old) (V.faults volume.new) (V.log_faults volume.old) (V.log_faults volume.new) }
-        ensures fault_told { decision_of result ≡ fault → IsSome self.new.halted × IsSome self.new.doubt }
+        ensures halts { HaltsBy self.old.halted self.new.halted (V.faults volume.old) (V.faults volume.new)
+            (V.log_faults volume.old) (V.log_faults volume.new) }
+        ensures fault_told { decision_of result ≡ fault → Rose (V.faults volume.old) (V.faults volume.new) }
         ensures inside { IsInside (decision_of result) }
     {
         let alloc = *self.marks.allocator();

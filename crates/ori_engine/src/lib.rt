@@ -4,14 +4,14 @@
 mod engine;
 mod fault;
 mod kept;
+mod laws;
 mod opened;
 mod opening;
 mod prepared;
 mod rows;
 mod sizes;
+mod writing;
 
 pub use engine::{Ended, Engine, Unopened};
 pub use fault::StartFault;
-pub use kept::Kept;
-pub use opened::Opened;
-pub use opening::read_pages;
+pub use laws::one_base_law;

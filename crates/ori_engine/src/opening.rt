@@ -1,19 +1,22 @@
 // The pages of a volume as an opening finds them, and what is kept of it from then on.
-ghost use Rattle.std.specs.Prelude.{◌≡◌, ◌≤◌, ◌<◌, ◌+◌, ◌-◌, ◌/◌, ◌^◌, ℕ, List, length, IfOk, OnOk, OnErr, IfSome, IfErr, IsErrOf, ◌⊎◌};
+ghost use Rattle.std.specs.Prelude.{◌≡◌, ◌≤◌, ◌<◌, ◌+◌, ◌-◌, ◌/◌, ◌^◌, ◌⊎◌};
+ghost use Rattle.std.specs.Prelude.{ℕ, List, IfOk, OnOk, IfSome, IfErr, IsErrOf};
 ghost use Rattle.ori_volume.specs.declared.file.FileNo.{FileNo};
 ghost use Rattle.ori_volume.specs.Story.{Tells, Reads};
-ghost use Rattle.ori_spec.specs.Log.{ImageData, home_of, pages_of};
-ghost use Rattle.ori_spec.specs.Base.{BaseData};
-ghost use Rattle.ori_spec.specs.Stage.{IsDatabase};
+ghost use Rattle.ori_log.specs.Log.{ImageData, home_of, pages_of};
+ghost use Rattle.ori_spec_data.specs.Base.{BaseData};
+ghost use Rattle.ori_rows.specs.Stage.{IsDatabase};
 ghost use Rattle.ori_log.specs.Files.{files_data};
 ghost use Rattle.ori_log.specs.Attaching.{ListsLast};
 ghost use Rattle.ori_log.specs.Images.{image_data};
 ghost use Rattle.ori_log.specs.Appending.{FailsAs};
 ghost use Rattle.ori_engine.specs.Homes.{with_homes, with_image};
-ghost use Rattle.ori_engine.specs.Openings.{Finds, IsStarted, IsFresh, Starts};
+ghost use Rattle.ori_engine.specs.States.{IsNewlyKept};
+ghost use Rattle.ori_engine.specs.Openings.{Finds, IsStartedKept, Starts};
 
+use crate::StartFault;
+use crate::kept::Kept;
 use crate::rows::open_table;
-use crate::{Kept, StartFault};
 use ori_bytes::limits::PAGE_BYTES;
 use ori_log::{ImageList, Log, LogFault, PageImage};
 use ori_page::Page;
@@ -51,7 +54,8 @@ fn read_homes<V: Volume>(
     end: u64,
 ) -> Result<(), StartFault>
     requires { end ≤ 2 ^ 52 }
-    ensures value { OnOk result (IfSome (V.files volume.old) (λ fs. pages.new.items ≡ with_homes fs.pages pages.old.items end)) }
+    ensures value { OnOk result (IfSome (V.files volume.old)
+        (λ fs. pages.new.items ≡ with_homes fs.pages pages.old.items end)) }
     ensures fault { IfErr result (λ fault. (fault ≡ StartFault.Fault) ⊎ (fault ≡ StartFault.NoMemory)) }
     ensures files { V.files volume.new ≡ V.files volume.old }
     ensures story { Tells Reads (V.story volume.old) (V.story volume.new) }
@@ -72,7 +76,8 @@ fn add_image<V: Volume>(
     pages: &mut Vec<Page>,
     image: PageImage,
 ) -> Result<(), StartFault>
-    ensures value { OnOk result (IfSome (V.files volume.old) (λ fs. pages.new.items ≡ with_image fs.pages pages.old.items (image_data image))) }
+    ensures value { OnOk result (IfSome (V.files volume.old)
+        (λ fs. pages.new.items ≡ with_image fs.pages pages.old.items (image_data image))) }
     ensures fault { IfErr result (λ fault. (fault ≡ StartFault.Fault) ⊎ (fault ≡ StartFault.NoMemory)) }
     ensures files { V.files volume.new ≡ V.files volume.old }
     ensures story { Tells Reads (V.story volume.old) (V.story volume.new) }
@@ -85,14 +90,15 @@ fn add_image<V: Volume>(
     Ok(())
 }
 
-/// The pages that the files give: each as one of these images, which are those of the log, and else as it stands at home.
-pub fn read_pages<V: Volume>(
+/// The pages that the files give: each as one of these images, which are those of the log, and else as it stands at
+/// home.
+fn read_pages<V: Volume>(
     alloc: Global,
     volume: &mut V,
     images: ImageList,
 ) -> Result<Vec<Page>, StartFault>
-    ensures value { IfOk result (λ pages. IfSome (V.files volume.old) (λ fs. (records : List (List ImageData)) → ListsLast records images
-        → pages.items ≡ pages_of (files_data fs) records)) }
+    ensures value { IfOk result (λ pages. IfSome (V.files volume.old) (λ fs. (records : List (List ImageData))
+        → ListsLast records images → pages.items ≡ pages_of (files_data fs) records)) }
     ensures fault { IfErr result (λ fault. (fault ≡ StartFault.Fault) ⊎ (fault ≡ StartFault.NoMemory)) }
     ensures files { V.files volume.new ≡ V.files volume.old }
     ensures story { Tells Reads (V.story volume.old) (V.story volume.new) }
@@ -122,14 +128,17 @@ fn start_fault(fault: LogFault) -> StartFault
 
 /// Attaches a volume's log, whose images and the homes behind them give the pages, and reads the rows from these.
 pub(crate) fn open_kept<V: Volume>(alloc: Global, volume: &mut V) -> Result<Kept, StartFault>
-    ensures found { IfOk result (λ k. (base : BaseData) (room : ℕ) → Finds (V.files volume.old) base room → IsStarted k base room) }
-    ensures fresh { IfOk result IsFresh }
+    ensures found { IfOk result (λ k. (base : BaseData) (room : ℕ) → Finds (V.files volume.old) base room
+        → IsStartedKept base room k) }
+    ensures fresh { IfOk result IsNewlyKept }
     ensures database { OnOk result (IfSome (V.files volume.old) (λ fs. IsDatabase (files_data fs))) }
-    ensures not_a_database { IsErrOf result StartFault.NotADatabase → IfSome (V.files volume.old) (λ fs. IsDatabase (files_data fs) → ⊥) }
+    ensures not_a_database { IsErrOf result StartFault.NotADatabase
+        → IfSome (V.files volume.old) (λ fs. IsDatabase (files_data fs) → ⊥) }
     ensures refused { IsErrOf result StartFault.NotADatabase → V.files volume.new ≡ V.files volume.old }
     ensures crash { Tells (Starts result) (V.story volume.old) (V.story volume.new) }
     ensures faults { FailsAs StartFault.Fault (V.faults volume.old) (V.faults volume.new) result }
     ensures log_faults { V.log_faults volume.old ≤ V.log_faults volume.new }
+    ensures log_fine { OnOk result (V.log_faults volume.new ≡ V.log_faults volume.old) }
 {
     let (log, images) = match Log::attach(alloc, volume) {
         Ok(attached) => attached,

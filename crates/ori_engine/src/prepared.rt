@@ -5,7 +5,7 @@ use ori_table::Staged;
 
 /// A transaction that was staged, its entry, the identifiers of its new records, and the feed's bytes with the entry.
 #[derive(Drop)]
-pub struct Prepared {
+pub(crate) struct Prepared {
     pub staged: Staged,
     pub entry: Entry,
     pub fresh: RidList,

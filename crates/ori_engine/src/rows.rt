@@ -2,9 +2,10 @@
 ghost use Rattle.std.specs.Prelude.{◌≡◌, ◌+◌, ◌<◌, ℕ, List, length, IfOk, IsErrOf};
 ghost use Rattle.std.specs.List.{AllByRecursion};
 ghost use Rattle.ori_bytes.specs.declared.limits.TheConstants.{MAX_PAGES};
-ghost use Rattle.ori_spec.specs.Stage.{record_page};
+ghost use Rattle.ori_rows.specs.Stage.{record_page};
 ghost use Rattle.ori_table.specs.Kept.{row_of, rows_of};
-ghost use Rattle.ori_engine.specs.Reading.{AreReadFrom, HasNoCount, IsCountOf, IsNoTable, IsOpened, IsRecordPage, IsRowAt};
+ghost use Rattle.ori_engine.specs.Reading.{AreReadFrom, HasNoCount, IsCountOf, IsNoTable};
+ghost use Rattle.ori_engine.specs.Reading.{IsOpened, IsRecordPage, IsRowAt};
 
 use crate::StartFault;
 use ori_bytes::Rid;
@@ -24,8 +25,8 @@ const LENGTH_AT: usize = 8;
 // Where page 0 has the number of pages.
 const COUNT_AT: usize = 12;
 
-// How many pages page 0 counts. NotADatabase where it isn't of the form, where there are fewer, and where there are more than a
-// database may have.
+// How many pages page 0 counts. NotADatabase where it isn't of the form, where there are fewer, and where there are
+// more than a database may have.
 fn counted_by(alloc: Global, pages: &[Page]) -> Result<usize, StartFault>
     ensures count { IfOk result (IsCountOf pages.now) }
     ensures none { IsErrOf result StartFault.NotADatabase → HasNoCount pages.now }
@@ -48,8 +49,8 @@ fn counted_by(alloc: Global, pages: &[Page]) -> Result<usize, StartFault>
     Ok(count as usize)
 }
 
-// The bytes of a page's record, of which there are none where the position has no record. NotADatabase where the page is of
-// another form.
+// The bytes of a page's record, of which there are none where the position has no record. NotADatabase where the page
+// is of another form.
 fn spelling_on(alloc: Global, page: &Page) -> Result<&[u8], StartFault>
     ensures page { IfOk result (λ bytes. page.now ≡ record_page bytes.now) }
     ensures one { IfOk result (λ bytes. (other : List ℕ) → page.now ≡ record_page other → other ≡ bytes.now) }
@@ -109,8 +110,8 @@ fn read_rows(alloc: Global, pages: &[Page]) -> Result<Table, StartFault>
     Ok(table)
 }
 
-/// The pages that were found as a table of rows. Files without a page hold the initial base, of which no position is given.
-/// NotADatabase where the pages stand for no base, and where there are more than a database may have.
+/// The pages that were found as a table of rows. Files without a page hold the initial base, of which no position is
+/// given. NotADatabase where the pages stand for no base, and where there are more than a database may have.
 pub(crate) fn open_table(alloc: Global, pages: Vec<Page>) -> Result<Table, StartFault>
     ensures opened { IfOk result (λ table. IsOpened pages.items (rows_of table.0)) }
     ensures none { IsErrOf result StartFault.NotADatabase → IsNoTable pages.items }

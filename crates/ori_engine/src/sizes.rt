@@ -1,6 +1,6 @@
 // What changes count in the feed.
 ghost use Rattle.std.specs.Prelude.{◌≡◌, ◌+◌, [], map, IfOk};
-ghost use Rattle.ori_spec.specs.Weighing as weighing;
+ghost use Rattle.ori_spec_data.specs.Weighing as weighing;
 ghost use Rattle.ori_model.specs.Data.{change_of};
 
 use ori_bytes::NoMemory;

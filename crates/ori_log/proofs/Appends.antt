@@ -1,5 +1,7 @@
 -- The moments of an append.
-use Rattle.std.proofs.Common.{◌≡◌, inl, ℕ, ◌+◌, ◌<◌, true, List, [], ◌∷◌, ◌++◌, length, take, flat_map, slice_index, get_or, Result, Ok, Err, OnOk, sym, ◌∙◌, ap, ap₂, subst, arith, append_assoc, append-nil, length-append, length-take}
+use Rattle.std.proofs.Common.{◌≡◌, inl, ℕ, ◌+◌, ◌<◌, true, List, [], ◌∷◌, ◌++◌, length, take, flat_map, slice_index}
+use Rattle.std.proofs.Common.{get_or, Result, Ok, Err, OnOk, sym, ◌∙◌, ap, ap₂, subst, arith, append_assoc, append-nil}
+use Rattle.std.proofs.Common.{length-append, length-take}
 use Rattle.std.specs.List.{AllByRecursion}
 use Rattle.std.specs.Result.{IsErr}
 use Rattle.std.proofs.lemmas.List.{places}
@@ -13,7 +15,7 @@ use Rattle.ori_volume.specs.Story.{Story, ChangesFile, Writes, Syncs}
 use Rattle.ori_volume.specs.Runs.{Run}
 use Rattle.ori_volume.proofs.Lasting.{written_torn}
 use Rattle.ori_volume.proofs.RunSteps.{run_then, run_weaker, run_last, run_ends}
-use Rattle.ori_spec.specs.Log.{ImageData, record_bytes, IsLogRecord}
+use Rattle.ori_log.specs.Log.{ImageData, record_bytes, IsLogRecord}
 use Rattle.ori_log.specs.Files.{is_log_file, Behind}
 use Rattle.ori_log.specs.Images.{behind_gate}
 use Rattle.ori_log.specs.Staging.{staged, IsReady, Staged, Stages}
@@ -22,71 +24,97 @@ use Rattle.ori_log.specs.Appending.{AppendMoment, WroteBody, OpenedGate}
 use Rattle.ori_log.specs.declared.stage.Stage.{Stage}
 use Rattle.ori_log.proofs.Behind.{with_twice, behind_refl, behind_then, torn_behind, synced_behind, same_behind}
 use Rattle.ori_log.proofs.Stages.{on_err, put_front, StagesOk}
-use Rattle.ori_log.proofs.Logs.{all_more, each_has_tail, behind_holds, names_same, each_has_either, torn_gate, synced_log, synced_one_more}
+use Rattle.ori_log.proofs.Logs.{all_more, each_has_tail, behind_holds, names_same, each_has_either, torn_gate}
+use Rattle.ori_log.proofs.Logs.{synced_log, synced_one_more}
 
 abbrev Answer : Type 0
 Answer = Result (Unit {0}) Failed
 
-module _ (file : FileNo) (place : ℕ) (records : List (List ImageData)) (images : List ImageData) (in_log : is_log_file file ≡ true) where
+module _ (file : FileNo) (place : ℕ) (records : List (List ImageData)) (images : List ImageData)
+    (in_log : is_log_file file ≡ true) where
   -- a moment at which the file has changed behind its closed gate
-  pub behind_moment : (old new : Disk) → Names old.master file → HoldsLog records place (of_file old file) → Behind file (place + 1) MAX_LOG_BYTES old new
+  pub behind_moment : (old new : Disk) → Names old.master file → HoldsLog records place (of_file old file)
+      → Behind file (place + 1) MAX_LOG_BYTES old new
       → AppendMoment file records images old new
   behind_moment old new names holds behind = record {
     only = behind.only;
     short = behind.greatest;
     either = λ image allowed.
-        inl (each_has_tail records place file new (names_same old new file in_log behind.only names) (behind_holds records place MAX_LOG_BYTES file old new holds behind) image allowed);
+        inl (each_has_tail records place file new (names_same old new file in_log behind.only names)
+        (behind_holds records place MAX_LOG_BYTES file old new holds behind) image allowed);
   }
 
   -- a moment at which the gate before a whole record may be open
-  pub gate_moment : (gate low : ℕ) (old new : Disk) → Names old.master file → HoldsOneMore records images place gate (of_file new file) → Behind file low MAX_LOG_BYTES old new
+  pub gate_moment : (gate low : ℕ) (old new : Disk) → Names old.master file
+      → HoldsOneMore records images place gate (of_file new file) → Behind file low MAX_LOG_BYTES old new
       → AppendMoment file records images old new
   gate_moment gate low old new names holds behind = record {
     only = behind.only;
     short = behind.greatest;
-    either = each_has_either records images place gate file new (names_same old new file in_log behind.only names) holds;
+    either = each_has_either records images place gate file new (names_same old new file in_log behind.only names)
+        holds;
   }
 
-  pub moment_then : (old mid new : Disk) → AppendMoment file records images old mid → AppendMoment file records images mid new → AppendMoment file records images old new
+  pub moment_then : (old mid new : Disk) → AppendMoment file records images old mid
+      → AppendMoment file records images mid new → AppendMoment file records images old new
   moment_then old mid new first second = record {
-    only = second.only ∙ ap (λ (d : Disk). with_file d file (of_file new file)) first.only ∙ with_twice old file (of_file mid file) (of_file new file);
+    only = second.only ∙ ap (λ (d : Disk). with_file d file (of_file new file)) first.only
+        ∙ with_twice old file (of_file mid file) (of_file new file);
     short = omega (arith, first.short, second.short);
     either = second.either;
   }
 
   -- what is staged waits for the place behind the closed gate
-  ready_behind : (stage : Stage) (disk : Disk) → stage.at ≡ place + 1 → HoldsLog records place (of_file disk file) → IsReady file (place + 1) stage disk
+  ready_behind : (stage : Stage) (disk : Disk) → stage.at ≡ place + 1 → HoldsLog records place (of_file disk file)
+      → IsReady file (place + 1) stage disk
   ready_behind stage disk at holds = record { behind = omega (arith, at); no_gap = omega (arith, at, holds.long) }
 
-  pub body_failed : (s0 s1 : Stage) (fault : Failed) (result : Answer) (old new : Story) → IsErr result → s0.at ≡ place + 1
+  pub body_failed : (s0 s1 : Stage) (fault : Failed) (result : Answer) (old new : Story) → IsErr result
+      → s0.at ≡ place + 1
       → Stages {T = Unit {0}} {E = Failed} file s0 s1 (behind_gate images) (Err fault) old new
-      → Names old.now.disk.master file → HoldsLog records place (of_file old.now.disk file) → WroteBody file place records images result old new
+      → Names old.now.disk.master file → HoldsLog records place (of_file old.now.disk file)
+      → WroteBody file place records images result old new
   body_failed s0 s1 fault result old new failed at stages names holds =
       record {
-        moments = run_weaker (Behind file (place + 1) MAX_LOG_BYTES old.now.disk) (AppendMoment file records images old.now.disk) old new (λ disk. behind_moment old.now.disk disk names holds)
+        moments = run_weaker (Behind file (place + 1) MAX_LOG_BYTES old.now.disk)
+            (AppendMoment file records images old.now.disk) old new
+            (λ disk. behind_moment old.now.disk disk names holds)
             (stages (place + 1) (ready_behind s0 old.now.disk at holds)).0;
         behind = on_err _ result failed;
       }
 
   -- the file once all that was staged is written
-  body_written : (s0 s1 : Stage) (old mid : Disk) → s0.at ≡ place + 1 → s0.filled ≡ 0 → s1.filled ≡ 0 → IsLogRecord images → (holds : HoldsLog records place (of_file old file))
+  body_written : (s0 s1 : Stage) (old mid : Disk) → s0.at ≡ place + 1 → s0.filled ≡ 0 → s1.filled ≡ 0
+      → IsLogRecord images → (holds : HoldsLog records place (of_file old file))
       → Staged file (place + 1) s0 s1 (behind_gate images) old mid
-      → (s1.at ≡ place + 1 + length (behind_gate images)) × (take (place + 1 + length (behind_gate images)) (of_file mid file).bytes ≡ flat_map record_bytes records ++ holds.gate ∷ behind_gate images)
+      → (s1.at ≡ place + 1 + length (behind_gate images)) × (take (place + 1 + length (behind_gate images))
+      (of_file mid file).bytes ≡ flat_map record_bytes records ++ holds.gate ∷ behind_gate images)
   body_written s0 s1 old mid at empty written is_record holds more =
       let before : staged s0 (of_file old file) ≡ flat_map record_bytes records ++ holds.gate ∷ [] =
-      ap₂ (λ (n : ℕ) (k : ℕ). take n (of_file old file).bytes ++ take k s0.buffer.items) at empty ∙ append-nil _ ∙ holds.reads in
+      ap₂ (λ (n : ℕ) (k : ℕ). take n (of_file old file).bytes ++ take k s0.buffer.items) at empty ∙ append-nil _
+      ∙ holds.reads in
       let after : staged s1 (of_file mid file) ≡ take s1.at (of_file mid file).bytes =
       ap (λ (k : ℕ). take s1.at (of_file mid file).bytes ++ take k s1.buffer.items) written ∙ append-nil _ in
       let all : take s1.at (of_file mid file).bytes ≡ flat_map record_bytes records ++ holds.gate ∷ behind_gate images =
-      sym after ∙ more.front ∙ ap (λ (l : List ℕ). l ++ behind_gate images) before ∙ append_assoc (flat_map record_bytes records) (holds.gate ∷ []) (behind_gate images) in
+      sym after ∙ more.front ∙ ap (λ (l : List ℕ). l ++ behind_gate images) before
+      ∙ append_assoc (flat_map record_bytes records) (holds.gate ∷ []) (behind_gate images) in
       let end : s1.at ≡ place + 1 + length (behind_gate images) =
-      omega (arith, ap length all, length-take s1.at (of_file mid file).bytes, more.ready.no_gap, holds.place_is, length-append (flat_map record_bytes records) (holds.gate ∷ behind_gate images)) in
+      omega (
+        arith,
+        ap length all,
+        length-take s1.at (of_file mid file).bytes,
+        more.ready.no_gap,
+        holds.place_is,
+        length-append (flat_map record_bytes records) (holds.gate ∷ behind_gate images),
+      ) in
       (end, ap (λ (n : ℕ). take n (of_file mid file).bytes) (sym end) ∙ all)
 
   -- a body that reads as it was written is firm once it is synced
   firm_body : (result : Answer) (gate : ℕ) (mid new : Story) → Syncs {T = Unit {0}} {E = Failed} file result mid new
-      → take (place + 1 + length (behind_gate images)) (of_file mid.now.disk file).bytes ≡ flat_map record_bytes records ++ gate ∷ behind_gate images
-      → IsLogRecord images → AllByRecursion IsLogRecord records → place ≡ length (flat_map record_bytes records) → place + length (behind_gate images) < length (of_file mid.now.disk file).bytes
+      → take (place + 1 + length (behind_gate images)) (of_file mid.now.disk file).bytes ≡ flat_map record_bytes records
+      ++ gate ∷ behind_gate images
+      → IsLogRecord images → AllByRecursion IsLogRecord records → place ≡ length (flat_map record_bytes records)
+      → place + length (behind_gate images) < length (of_file mid.now.disk file).bytes
       → OnOk result ((gate : ℕ) × HoldsOneMore records images place gate (of_file new.now.disk file))
   firm_body (Ok value) gate mid new syncs reads is_record whole place_is long =
       let is : of_file new.now.disk file ≡ synced (of_file mid.now.disk file) = syncs.change.here in (
@@ -102,44 +130,60 @@ module _ (file : FileNo) (place : ℕ) (records : List (List ImageData)) (images
       )
   firm_body (Err fault) gate mid new syncs reads is_record whole place_is long = tt
 
-  pub body_done : (s0 s1 : Stage) (result : Answer) (old mid new : Story) → s0.at ≡ place + 1 → s0.filled ≡ 0 → s1.filled ≡ 0
-      → IsImage mid.now.disk (files_of mid.now.disk) → StagesOk file s0 s1 (behind_gate images) old mid → Syncs {T = Unit {0}} {E = Failed} file result mid new
-      → IsLogRecord images → Names old.now.disk.master file → HoldsLog records place (of_file old.now.disk file) → WroteBody file place records images result old new
+  pub body_done : (s0 s1 : Stage) (result : Answer) (old mid new : Story) → s0.at ≡ place + 1 → s0.filled ≡ 0
+      → s1.filled ≡ 0
+      → IsImage mid.now.disk (files_of mid.now.disk) → StagesOk file s0 s1 (behind_gate images) old mid
+      → Syncs {T = Unit {0}} {E = Failed} file result mid new
+      → IsLogRecord images → Names old.now.disk.master file → HoldsLog records place (of_file old.now.disk file)
+      → WroteBody file place records images result old new
   body_done s0 s1 result old mid new at empty written sound stages syncs is_record names holds =
       let Q : Disk → Type 0 = Behind file (place + 1) MAX_LOG_BYTES old.now.disk in
       let put = stages (place + 1) (ready_behind s0 old.now.disk at holds) in
-      let reached : Q mid.now.disk = run_last Q old mid (behind_refl file (place + 1) MAX_LOG_BYTES old.now.disk) put.0 in
-      let held : HoldsLog records place (of_file mid.now.disk file) = behind_holds records place MAX_LOG_BYTES file old.now.disk mid.now.disk holds reached in
+      let reached : Q mid.now.disk =
+      run_last Q old mid (behind_refl file (place + 1) MAX_LOG_BYTES old.now.disk) put.0 in
+      let held : HoldsLog records place (of_file mid.now.disk file) =
+      behind_holds records place MAX_LOG_BYTES file old.now.disk mid.now.disk holds reached in
       let sync = run_ends Q file (λ f g. g ≡ synced f) (λ f g. g ≡ f) result mid new
       (λ change. behind_then file (place + 1) MAX_LOG_BYTES old.now.disk mid.now.disk new.now.disk reached
       (synced_behind file (place + 1) MAX_LOG_BYTES mid.now.disk new.now.disk sound (omega (arith, held.long)) change))
-      (λ change. behind_then file (place + 1) MAX_LOG_BYTES old.now.disk mid.now.disk new.now.disk reached (same_behind file (place + 1) MAX_LOG_BYTES mid.now.disk new.now.disk change))
+      (λ change. behind_then file (place + 1) MAX_LOG_BYTES old.now.disk mid.now.disk new.now.disk reached
+      (same_behind file (place + 1) MAX_LOG_BYTES mid.now.disk new.now.disk change))
       syncs in
       let is = body_written s0 s1 old.now.disk mid.now.disk at empty written is_record holds put.1 in
       record {
-        moments = run_weaker Q (AppendMoment file records images old.now.disk) old new (λ disk. behind_moment old.now.disk disk names holds) (run_then Q old mid new put.0 sync);
-        behind = firm_body result holds.gate mid new syncs is.1 is_record holds.whole holds.place_is (omega (arith, is.0, (put.1).ready.no_gap));
+        moments = run_weaker Q (AppendMoment file records images old.now.disk) old new
+            (λ disk. behind_moment old.now.disk disk names holds) (run_then Q old mid new put.0 sync);
+        behind = firm_body result holds.gate mid new syncs is.1 is_record holds.whole holds.place_is
+            (omega (arith, is.0, (put.1).ready.no_gap));
       }
 
   -- the gate is written, done or failed
-  torn_moment : (gate : ℕ) (old new : Disk) → place < MAX_LOG_BYTES → IsImage old (files_of old) → Names old.master file → HoldsOneMore records images place gate (of_file old file)
+  torn_moment : (gate : ℕ) (old new : Disk) → place < MAX_LOG_BYTES → IsImage old (files_of old) → Names old.master file
+      → HoldsOneMore records images place gate (of_file old file)
       → ChangesFile file (Torn place 1) old new → AppendMoment file records images old new
   torn_moment gate old new room sound names holds change =
-      gate_moment (slice_index (of_file new file).bytes place) place old new names (torn_gate records images place gate (of_file old file) (of_file new file) holds change.here)
-      (torn_behind file place MAX_LOG_BYTES place 1 old new sound (omega arith) (omega (arith, holds.long)) (omega arith) change)
+      gate_moment (slice_index (of_file new file).bytes place) place old new names
+      (torn_gate records images place gate (of_file old file) (of_file new file) holds change.here)
+      (torn_behind file place MAX_LOG_BYTES place 1 old new sound (omega arith) (omega (arith, holds.long))
+      (omega arith) change)
 
-  write_gate : (gate : ℕ) (result : Answer) (old new : Story) → place < MAX_LOG_BYTES → IsImage old.now.disk (files_of old.now.disk) → Names old.now.disk.master file
-      → HoldsOneMore records images place gate (of_file old.now.disk file) → Writes {T = Unit {0}} {E = Failed} file place (OPEN_GATE ∷ []) result old new
+  write_gate : (gate : ℕ) (result : Answer) (old new : Story) → place < MAX_LOG_BYTES
+      → IsImage old.now.disk (files_of old.now.disk) → Names old.now.disk.master file
+      → HoldsOneMore records images place gate (of_file old.now.disk file)
+      → Writes {T = Unit {0}} {E = Failed} file place (OPEN_GATE ∷ []) result old new
       → Run (AppendMoment file records images old.now.disk) old new
   write_gate gate result old new room sound names holds writes =
-      run_ends (AppendMoment file records images old.now.disk) file (λ f g. g ≡ written f place (OPEN_GATE ∷ [])) (Torn place 1) result old new
+      run_ends (AppendMoment file records images old.now.disk) file (λ f g. g ≡ written f place (OPEN_GATE ∷ []))
+      (Torn place 1) result old new
       (λ change. torn_moment gate old.now.disk new.now.disk room sound names holds
       (record { here = written_torn place (OPEN_GATE ∷ []) _ _ change.here; elsewhere = change.elsewhere }))
       (torn_moment gate old.now.disk new.now.disk room sound names holds)
       writes
 
-  pub gate_failed : (gate : ℕ) (fault : Failed) (result : Answer) (old new : Story) → IsErr result → place < MAX_LOG_BYTES → IsImage old.now.disk (files_of old.now.disk)
-      → Writes {T = Unit {0}} {E = Failed} file place (OPEN_GATE ∷ []) (Err fault) old new → Names old.now.disk.master file → HoldsOneMore records images place gate (of_file old.now.disk file)
+  pub gate_failed : (gate : ℕ) (fault : Failed) (result : Answer) (old new : Story) → IsErr result
+      → place < MAX_LOG_BYTES → IsImage old.now.disk (files_of old.now.disk)
+      → Writes {T = Unit {0}} {E = Failed} file place (OPEN_GATE ∷ []) (Err fault) old new
+      → Names old.now.disk.master file → HoldsOneMore records images place gate (of_file old.now.disk file)
       → OpenedGate file place records images result old new
   gate_failed gate fault result old new failed room sound writes names holds = record {
     moments = write_gate gate (Err fault) old new room sound names holds writes;
@@ -147,40 +191,57 @@ module _ (file : FileNo) (place : ℕ) (records : List (List ImageData)) (images
   }
 
   -- the gate reads as it was written
-  open_reads : (f g : FileData) → place < length f.bytes → g ≡ written f place (OPEN_GATE ∷ []) → slice_index g.bytes place ≡ OPEN_GATE
+  open_reads : (f g : FileData) → place < length f.bytes → g ≡ written f place (OPEN_GATE ∷ [])
+      → slice_index g.bytes place ≡ OPEN_GATE
   open_reads f g long is =
       let front : take (place + 1) g.bytes ≡ take place f.bytes ++ OPEN_GATE ∷ [] =
       ap (λ (d : FileData). take (place + 1) d.bytes) is ∙ put_front f.bytes (OPEN_GATE ∷ []) place (omega arith) in
       let size : length (take place f.bytes) ≡ place = omega (arith, length-take place f.bytes) in
       let same : get_or (take (place + 1) g.bytes) place 0 ≡ get_or g.bytes place 0 = grind (arith, places) in
-      sym same ∙ ap (λ (l : List ℕ). get_or l place 0) front ∙ ap (λ (n : ℕ). get_or (take place f.bytes ++ OPEN_GATE ∷ []) n 0) (sym size)
+      sym same ∙ ap (λ (l : List ℕ). get_or l place 0) front ∙ ap
+      (λ (n : ℕ). get_or (take place f.bytes ++ OPEN_GATE ∷ []) n 0) (sym size)
       ∙ get_or-append_seam (take place f.bytes) OPEN_GATE [] 0
 
-  open_log : (result : Answer) (mid new : Story) → HoldsOneMore records images place OPEN_GATE (of_file mid.now.disk file) → Syncs {T = Unit {0}} {E = Failed} file result mid new
-      → OnOk result (HoldsLog (records ++ images ∷ []) (place + length (behind_gate images)) (of_file new.now.disk file))
-  open_log (Ok value) mid new holds syncs = synced_log records images place (of_file mid.now.disk file) (of_file new.now.disk file) holds syncs.change.here
+  open_log : (result : Answer) (mid new : Story) → HoldsOneMore records images place OPEN_GATE
+      (of_file mid.now.disk file) → Syncs {T = Unit {0}} {E = Failed} file result mid new
+      → OnOk result (HoldsLog (records ++ images ∷ []) (place + length (behind_gate images))
+      (of_file new.now.disk file))
+  open_log (Ok value) mid new holds syncs =
+      synced_log records images place (of_file mid.now.disk file) (of_file new.now.disk file) holds syncs.change.here
   open_log (Err fault) mid new holds syncs = tt
 
-  pub gate_done : (gate : ℕ) (result : Answer) (old mid new : Story) → place < MAX_LOG_BYTES → IsImage old.now.disk (files_of old.now.disk) → IsImage mid.now.disk (files_of mid.now.disk)
-      → Writes {T = Unit {0}} {E = Failed} file place (OPEN_GATE ∷ []) (Ok tt) old mid → Syncs {T = Unit {0}} {E = Failed} file result mid new
-      → Names old.now.disk.master file → HoldsOneMore records images place gate (of_file old.now.disk file) → OpenedGate file place records images result old new
+  pub gate_done : (gate : ℕ) (result : Answer) (old mid new : Story) → place < MAX_LOG_BYTES
+      → IsImage old.now.disk (files_of old.now.disk) → IsImage mid.now.disk (files_of mid.now.disk)
+      → Writes {T = Unit {0}} {E = Failed} file place (OPEN_GATE ∷ []) (Ok tt) old mid
+      → Syncs {T = Unit {0}} {E = Failed} file result mid new
+      → Names old.now.disk.master file → HoldsOneMore records images place gate (of_file old.now.disk file)
+      → OpenedGate file place records images result old new
   gate_done gate result old mid new room sound sound_mid writes syncs names holds =
       let Q : Disk → Type 0 = AppendMoment file records images old.now.disk in
       let put = write_gate gate (Ok tt) old mid room sound names holds writes in
-      let first : Q old.now.disk = gate_moment gate place old.now.disk old.now.disk names holds (behind_refl file place MAX_LOG_BYTES old.now.disk) in
+      let first : Q old.now.disk =
+      gate_moment gate place old.now.disk old.now.disk names holds
+      (behind_refl file place MAX_LOG_BYTES old.now.disk) in
       let reached : Q mid.now.disk = run_last Q old mid first put in
-      let names_mid : Names mid.now.disk.master file = names_same old.now.disk mid.now.disk file in_log reached.only names in
-      let torn : Torn place 1 (of_file old.now.disk file) (of_file mid.now.disk file) = written_torn place (OPEN_GATE ∷ []) _ _ writes.change.here in
-      let is_open : slice_index (of_file mid.now.disk file).bytes place ≡ OPEN_GATE = open_reads (of_file old.now.disk file) (of_file mid.now.disk file) (omega (arith, holds.long)) writes.change.here in
+      let names_mid : Names mid.now.disk.master file =
+      names_same old.now.disk mid.now.disk file in_log reached.only names in
+      let torn : Torn place 1 (of_file old.now.disk file) (of_file mid.now.disk file) =
+      written_torn place (OPEN_GATE ∷ []) _ _ writes.change.here in
+      let is_open : slice_index (of_file mid.now.disk file).bytes place ≡ OPEN_GATE =
+      open_reads (of_file old.now.disk file) (of_file mid.now.disk file) (omega (arith, holds.long))
+      writes.change.here in
       let held : HoldsOneMore records images place OPEN_GATE (of_file mid.now.disk file) =
       subst (λ (b : ℕ). HoldsOneMore records images place b (of_file mid.now.disk file)) is_open
       (torn_gate records images place gate (of_file old.now.disk file) (of_file mid.now.disk file) holds torn) in
       let sync = run_ends Q file (λ f g. g ≡ synced f) (λ f g. g ≡ f) result mid new
       (λ change. moment_then old.now.disk mid.now.disk new.now.disk reached
-      (gate_moment OPEN_GATE place mid.now.disk new.now.disk names_mid (synced_one_more records images place OPEN_GATE (of_file mid.now.disk file) (of_file new.now.disk file) held change.here)
+      (gate_moment OPEN_GATE place mid.now.disk new.now.disk names_mid
+      (synced_one_more records images place OPEN_GATE (of_file mid.now.disk file) (of_file new.now.disk file) held
+      change.here)
       (synced_behind file place MAX_LOG_BYTES mid.now.disk new.now.disk sound_mid (omega (arith, held.long)) change)))
       (λ change. moment_then old.now.disk mid.now.disk new.now.disk reached
-      (gate_moment OPEN_GATE place mid.now.disk new.now.disk names_mid (subst (λ (f : FileData). HoldsOneMore records images place OPEN_GATE f) (sym change.here) held)
+      (gate_moment OPEN_GATE place mid.now.disk new.now.disk names_mid
+      (subst (λ (f : FileData). HoldsOneMore records images place OPEN_GATE f) (sym change.here) held)
       (same_behind file place MAX_LOG_BYTES mid.now.disk new.now.disk change)))
       syncs in
       record {

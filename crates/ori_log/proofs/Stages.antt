@@ -1,5 +1,7 @@
 -- How bytes are staged, one piece after another.
-use Rattle.std.proofs.Common.{true≢false, ◌≡◌, ℕ, ◌+◌, ◌-◌, ◌≤◌, List, [], ◌++◌, length, take, drop, replicate, Option, Some, None, Result, Ok, Err, OnOk, refl, sym, ◌∙◌, ap, ap₂, subst, arith, append_assoc, append-nil, length-append, length-take, take_at}
+use Rattle.std.proofs.Common.{true≢false, ◌≡◌, ℕ, ◌+◌, ◌-◌, ◌≤◌, List, [], ◌++◌, length, take, drop, replicate, Result}
+use Rattle.std.proofs.Common.{Ok, Err, OnOk, refl, sym, ◌∙◌, ap, ap₂, arith, append_assoc, append-nil, length-append}
+use Rattle.std.proofs.Common.{length-take, take_at}
 use Rattle.std.proofs.lemmas.List.{length-replicate}
 use Rattle.std.specs.Result.{IsErr}
 use Rattle.ori_bytes.specs.declared.limits.TheConstants.{MAX_LOG_BYTES}
@@ -7,35 +9,15 @@ use Rattle.ori_volume.specs.declared.failed.Failed.{Failed}
 use Rattle.ori_volume.specs.declared.file.FileNo.{FileNo}
 use Rattle.ori_volume.specs.Disk.{of_file, FileData, Disk, files_of, IsImage}
 use Rattle.ori_volume.specs.Effects.{put, padded, written, Torn}
-use Rattle.ori_volume.specs.Story.{Story, Tells, Writes}
+use Rattle.ori_volume.specs.Story.{Story, Writes}
 use Rattle.ori_volume.specs.Runs.{Run}
 use Rattle.ori_volume.proofs.Lasting.{written_torn}
 use Rattle.ori_volume.proofs.RunSteps.{run_begins, run_then, run_weaker, run_last, run_ends}
+pub use Rattle.ori_volume.proofs.Known.{tells_map, tells_then, tells_both}
 use Rattle.ori_log.specs.Files.{Behind}
 use Rattle.ori_log.specs.Staging.{IsReady, Staged, Stages}
 use Rattle.ori_log.specs.declared.stage.Stage.{Stage}
 use Rattle.ori_log.proofs.Behind.{behind_refl, behind_then, torn_behind}
-
-pub tells_map : {T : Type 0} (R S : T → T → Type 0) (a b : Option T) → ((x y : T) → a ≡ Some x → R x y → S x y) → Tells R a b → Tells S a b
-tells_map R S None b step told = told
-tells_map R S (Some x) b step told = (told.0, told.1, step x told.0 refl told.2)
-
-pub tells_then : {T : Type 0} (R S U : T → T → Type 0) (a b c : Option T) → ((x y z : T) → R x y → S y z → U x z) → Tells R a b → Tells S b c → Tells U a c
-tells_then R S U None b c step first second = subst (λ (o : Option _). Tells S o c) first second
-tells_then R S U (Some x) b c step first second =
-    let next : Tells S (Some first.0) c = subst (λ (o : Option _). Tells S o c) first.1 second in
-    (next.0, next.1, step x first.0 next.0 first.2 next.2)
-
--- the same, where what was told counts
-pub tells_both : {T : Type 0} (R S U : T → T → Type 0) (a b c : Option T) → ((x y z : T) → a ≡ Some x → b ≡ Some y → R x y → S y z → U x z) → Tells R a b → Tells S b c → Tells U a c
-tells_both R S U None b c step first second = subst (λ (o : Option _). Tells S o c) first second
-tells_both R S U (Some x) b c step first second =
-    let next : Tells S (Some first.0) c = subst (λ (o : Option _). Tells S o c) first.1 second in
-    (next.0, next.1, step x first.0 next.0 refl first.1 first.2 next.2)
-
-pub tells_refl : {T : Type 0} (R : T → T → Type 0) (a : Option T) → ((x : T) → R x x) → Tells R a a
-tells_refl R None reflexive = refl
-tells_refl R (Some x) reflexive = (x, refl, reflexive x)
 
 pub on_ok : {T E : Type 0} (P Q : Type 0) (result : Result T E) → (P → Q) → OnOk result P → OnOk result Q
 on_ok P Q (Ok x) step holds = step holds
@@ -56,22 +38,35 @@ nothing_staged file stage story = λ low ready. (
   record { ready = ready; front = sym (append-nil _) },
 )
 
-pub stages_then : (file : FileNo) (s0 s1 s2 : Stage) (xs ys : List ℕ) (result : Result (Unit {0}) Failed) (a b c : Story)
-    → StagesOk file s0 s1 xs a b → Stages {T = Unit {0}} {E = Failed} file s1 s2 ys result b c → Stages {T = Unit {0}} {E = Failed} file s0 s2 (xs ++ ys) result a c
+pub stages_then : (file : FileNo) (s0 s1 s2 : Stage) (xs ys : List ℕ) (result : Result (Unit {0}) Failed)
+    (a b c : Story)
+    → StagesOk file s0 s1 xs a b → Stages {T = Unit {0}} {E = Failed} file s1 s2 ys result b c
+    → Stages {T = Unit {0}} {E = Failed} file s0 s2 (xs ++ ys) result a c
 stages_then file s0 s1 s2 xs ys result a b c first second = λ low ready.
     let Q : Disk → Type 0 = Behind file low MAX_LOG_BYTES a.now.disk in
     let one = first low ready in
     let two = second low (one.1).ready in
     let reached : Q b.now.disk = run_last Q a b (behind_refl file low MAX_LOG_BYTES a.now.disk) one.0 in (
-      run_then Q a b c one.0 (run_weaker (Behind file low MAX_LOG_BYTES b.now.disk) Q b c (λ disk later. behind_then file low MAX_LOG_BYTES a.now.disk b.now.disk disk reached later) two.0),
-      on_ok (Staged file low s1 s2 ys b.now.disk c.now.disk) (Staged file low s0 s2 (xs ++ ys) a.now.disk c.now.disk) result
-          (λ more. record { ready = more.ready; front = more.front ∙ ap (λ (l : List ℕ). l ++ ys) (one.1).front ∙ append_assoc _ xs ys }) two.1,
+      run_then Q a b c one.0 (run_weaker (Behind file low MAX_LOG_BYTES b.now.disk) Q b c
+          (λ disk later. behind_then file low MAX_LOG_BYTES a.now.disk b.now.disk disk reached later) two.0),
+      on_ok (Staged file low s1 s2 ys b.now.disk c.now.disk) (Staged file low s0 s2 (xs ++ ys) a.now.disk c.now.disk)
+          result
+          (λ more. record {
+            ready = more.ready;
+            front = more.front ∙ ap (λ (l : List ℕ). l ++ ys) (one.1).front
+                ∙ append_assoc _ xs ys;
+          }) two.1,
     )
 
-pub stages_failed : (file : FileNo) (s0 s1 s2 : Stage) (xs ys zs : List ℕ) (fault : Failed) (result : Result (Unit {0}) Failed) (a b c : Story) → IsErr result
-    → StagesOk file s0 s1 xs a b → Stages {T = Unit {0}} {E = Failed} file s1 s2 ys (Err fault) b c → Stages {T = Unit {0}} {E = Failed} file s0 s2 zs result a c
-stages_failed file s0 s1 s2 xs ys zs fault result a b c failed first second = λ low ready.
-    ((stages_then file s0 s1 s2 xs ys (Err fault) a b c first second low ready).0, on_err (Staged file low s0 s2 zs a.now.disk c.now.disk) result failed)
+pub stages_failed : (file : FileNo) (s0 s1 s2 : Stage) (xs ys zs : List ℕ) (fault : Failed)
+    (result : Result (Unit {0}) Failed) (a b c : Story) → IsErr result
+    → StagesOk file s0 s1 xs a b → Stages {T = Unit {0}} {E = Failed} file s1 s2 ys (Err fault) b c
+    → Stages {T = Unit {0}} {E = Failed} file s0 s2 zs result a c
+stages_failed file s0 s1 s2 xs ys zs fault result a b c failed first second = λ low ready. (
+  (stages_then file s0 s1 s2 xs ys (Err fault) a b c first second low ready).0,
+  on_err
+      (Staged file low s0 s2 zs a.now.disk c.now.disk) result failed,
+)
 
 -- bytes that were put behind those that wait
 pub stages_copied : (file : FileNo) (s0 s1 s2 : Stage) (bytes : List ℕ) (a b : Story)
@@ -90,12 +85,17 @@ stages_copied file s0 s1 s2 bytes a b place waits first = λ low ready.
     )
 
 -- the front of a file after a write that leaves no gap
-pub put_front : (old bytes : List ℕ) (at : ℕ) → at ≤ length old → take (at + length bytes) (put old at bytes) ≡ take at old ++ bytes
+pub put_front : (old bytes : List ℕ) (at : ℕ) → at ≤ length old
+    → take (at + length bytes) (put old at bytes) ≡ take at old ++ bytes
 put_front old bytes at no_gap =
     let none : at - length old ≡ 0 = omega arith in
-    let front : take at (padded old at) ≡ take at old = ap (λ (n : ℕ). take at (old ++ replicate n 0)) none ∙ ap (λ (l : List ℕ). take at l) (append-nil old) in
-    let size : length (take at (padded old at) ++ bytes) ≡ at + length bytes = ap (λ (l : List ℕ). length (l ++ bytes)) front ∙ omega (arith, length-append (take at old) bytes, length-take at old) in
-    take_at (take at (padded old at) ++ bytes) (drop (at + length bytes) old) (at + length bytes) size ∙ ap (λ (l : List ℕ). l ++ bytes) front
+    let front : take at (padded old at) ≡ take at old =
+    ap (λ (n : ℕ). take at (old ++ replicate n 0)) none ∙ ap (λ (l : List ℕ). take at l) (append-nil old) in
+    let size : length (take at (padded old at) ++ bytes) ≡ at + length bytes =
+    ap (λ (l : List ℕ). length (l ++ bytes)) front ∙ omega
+    (arith, length-append (take at old) bytes, length-take at old) in
+    take_at (take at (padded old at) ++ bytes) (drop (at + length bytes) old) (at + length bytes) size
+    ∙ ap (λ (l : List ℕ). l ++ bytes) front
 
 pub put_long : (old bytes : List ℕ) (at : ℕ) → at + length bytes ≤ length (put old at bytes)
 put_long old bytes at =
@@ -108,34 +108,50 @@ put_long old bytes at =
       length-replicate {A = ℕ} (at - length old) 0,
     )
 
-module _ (file : FileNo) (s0 s1 : Stage) (bytes : List ℕ) (old new : Story) (sound : IsImage old.now.disk (files_of old.now.disk)) (room : s0.at + s0.filled ≤ MAX_LOG_BYTES)
+module _ (file : FileNo) (s0 s1 : Stage) (bytes : List ℕ) (old new : Story)
+    (sound : IsImage old.now.disk (files_of old.now.disk)) (room : s0.at + s0.filled ≤ MAX_LOG_BYTES)
     (waits : bytes ≡ take s0.filled s0.buffer.items) where
   short : length bytes ≤ s0.filled
   short = omega (arith, ap length waits, length-take s0.filled s0.buffer.items)
 
-  written_run : (low : ℕ) (result : Result (Unit {0}) Failed) → IsReady file low s0 old.now.disk → Writes {T = Unit {0}} {E = Failed} file s0.at bytes result old new
+  written_run : (low : ℕ) (result : Result (Unit {0}) Failed) → IsReady file low s0 old.now.disk
+      → Writes {T = Unit {0}} {E = Failed} file s0.at bytes result old new
       → Run (Behind file low MAX_LOG_BYTES old.now.disk) old new
   written_run low result ready writes =
-      run_ends (Behind file low MAX_LOG_BYTES old.now.disk) file (λ f g. g ≡ written f s0.at bytes) (Torn s0.at (length bytes)) result old new
-      (λ change. torn_behind file low MAX_LOG_BYTES s0.at (length bytes) old.now.disk new.now.disk sound ready.behind ready.no_gap (omega (arith, short))
+      run_ends (Behind file low MAX_LOG_BYTES old.now.disk) file (λ f g. g ≡ written f s0.at bytes)
+      (Torn s0.at (length bytes)) result old new
+      (λ change. torn_behind file low MAX_LOG_BYTES s0.at (length bytes) old.now.disk new.now.disk sound ready.behind
+      ready.no_gap (omega (arith, short))
       (record { here = written_torn s0.at bytes _ _ change.here; elsewhere = change.elsewhere }))
-      (torn_behind file low MAX_LOG_BYTES s0.at (length bytes) old.now.disk new.now.disk sound ready.behind ready.no_gap (omega (arith, short)))
+      (torn_behind file low MAX_LOG_BYTES s0.at (length bytes) old.now.disk new.now.disk sound ready.behind ready.no_gap
+      (omega (arith, short)))
       writes
 
   -- what waits is written
-  pub flush_failed : (fault : Failed) (result : Result (Unit {0}) Failed) → IsErr result → Writes {T = Unit {0}} {E = Failed} file s0.at bytes (Err fault) old new
+  pub flush_failed : (fault : Failed) (result : Result (Unit {0}) Failed) → IsErr result
+      → Writes {T = Unit {0}} {E = Failed} file s0.at bytes (Err fault) old new
       → Stages {T = Unit {0}} {E = Failed} file s0 s0 [] result old new
-  flush_failed fault result failed writes = λ low ready. (written_run low (Err fault) ready writes, on_err (Staged file low s0 s0 [] old.now.disk new.now.disk) result failed)
+  flush_failed fault result failed writes =
+      λ low ready. (
+        written_run low (Err fault) ready writes,
+        on_err
+            (Staged file low s0 s0 [] old.now.disk new.now.disk) result failed,
+      )
 
   pub flush_done : s0.filled ≤ length s0.buffer.items → s1.at ≡ s0.at + s0.filled → s1.filled ≡ 0
       → Writes {T = Unit {0}} {E = Failed} file s0.at bytes (Ok tt) old new → StagesOk file s0 s1 [] old new
   flush_done held reached empty writes = λ low ready.
       let count : length bytes ≡ s0.filled = omega (arith, ap length waits, length-take s0.filled s0.buffer.items) in
-      let reads : (of_file new.now.disk file).bytes ≡ put (of_file old.now.disk file).bytes s0.at bytes = ap (λ (d : FileData). d.bytes) writes.change.here in
+      let reads : (of_file new.now.disk file).bytes ≡ put (of_file old.now.disk file).bytes s0.at bytes =
+      ap (λ (d : FileData). d.bytes) writes.change.here in
       let end : s1.at ≡ s0.at + length bytes = omega arith in (
         written_run low (Ok tt) ready writes,
         record {
-          ready = record { behind = omega (arith, ready.behind); no_gap = omega (arith, ap length reads, put_long (of_file old.now.disk file).bytes bytes s0.at) };
+          ready = record {
+            behind = omega (arith, ready.behind);
+            no_gap = omega
+                (arith, ap length reads, put_long (of_file old.now.disk file).bytes bytes s0.at);
+          };
           front =
               ap₂ (λ (n : ℕ) (m : ℕ). take n (of_file new.now.disk file).bytes ++ take m s1.buffer.items) end empty
               ∙ append-nil _

@@ -6,7 +6,7 @@ use Rattle.ori_volume.specs.Disk.{of_file, with_file, Disk}
 use Rattle.ori_volume.specs.Causes.{Rose}
 use Rattle.ori_volume.specs.Story.{Story}
 use Rattle.ori_volume.specs.Runs.{Run, EachImage}
-use Rattle.ori_spec.specs.Log.{ImageData, body_bytes, IsLogRecord}
+use Rattle.ori_log.specs.Log.{ImageData, body_bytes, IsLogRecord}
 use Rattle.ori_log.specs.Images.{behind_gate}
 use Rattle.ori_log.specs.Logs.{HasTail, Names, HoldsLog, HoldsOneMore}
 use Rattle.ori_log.specs.declared.log.Log.{Log}
@@ -18,46 +18,56 @@ need_of images = 6 + length (body_bytes images)
 abbrev pub room_of : Log → ℕ
 room_of log = MAX_LOG_BYTES - log.place
 
--- The log is attached, with these records in its tail: the master names its file, which holds them and is no longer than a log
--- file may be, and a crash leaves it so.
+-- The log is attached, with these records in its tail: the master names its file, which holds them and is no longer
+-- than a log file may be, and a crash leaves it so.
 pub record IsAttached (log : Log) (records : List (List ImageData)) (disk : Disk) : Type 0 where
   pub names : Names disk.master log.file
   pub holds : HoldsLog records log.place (of_file disk log.file)
   pub counts : log.tail ≡ length records
 
--- A moment of an append to this file: no other file has changed, this one is at most as long as a log file may be where it was no
--- longer, and a crash leaves the records from before, or those and the new one.
-pub record AppendMoment (file : FileNo) (records : List (List ImageData)) (images : List ImageData) (old disk : Disk) : Type 0 where
+-- A moment of an append to this file: no other file has changed, this one is at most as long as a log file may be where
+-- it was no longer, and a crash leaves the records from before, or those and the new one.
+pub record AppendMoment (file : FileNo) (records : List (List ImageData)) (images : List ImageData)
+    (old disk : Disk) : Type 0 where
   pub only : disk ≡ with_file old file (of_file disk file)
   pub short : (of_file disk file).greatest ≤ max (of_file old file).greatest MAX_LOG_BYTES
   pub either : EachImage (λ image. HasTail records image ⊎ HasTail (records ++ images ∷ []) image) disk
 
--- Every moment of the call is one of the append, and after Ok the log is attached with the new record, and each image has it.
-pub record Joins {T E : Type 0} (old_log new_log : Log) (records : List (List ImageData)) (images : List ImageData) (result : Result T E) (old new : Story) : Type 0 where
+-- Every moment of the call is one of the append, and after Ok the log is attached with the new record, and each image
+-- has it.
+pub record Joins {T E : Type 0} (old_log new_log : Log) (records : List (List ImageData)) (images : List ImageData)
+    (result : Result T E) (old new : Story) : Type 0 where
   pub moments : Run (AppendMoment old_log.file records images old.now.disk) old new
   pub attached : OnOk result (IsAttached new_log (records ++ images ∷ []) new.now.disk)
   pub firm : OnOk result (EachImage (HasTail (records ++ images ∷ [])) new.now.disk)
 
 abbrev pub Appends : {T E : Type 0} → Log → Log → List ImageData → Result T E → Story → Story → Type 0
-Appends old_log new_log images result old new = (records : List (List ImageData)) → IsAttached old_log records old.now.disk → Joins old_log new_log records images result old new
+Appends old_log new_log images result old new = (records : List (List ImageData))
+    → IsAttached old_log records old.now.disk → Joins old_log new_log records images result old new
 
 -- The same while the record is written behind the closed gate: at Ok it is firm there.
-pub record WroteBody {T E : Type 0} (file : FileNo) (place : ℕ) (records : List (List ImageData)) (images : List ImageData) (result : Result T E) (old new : Story) : Type 0 where
+pub record WroteBody {T E : Type 0} (file : FileNo) (place : ℕ) (records : List (List ImageData))
+    (images : List ImageData) (result : Result T E) (old new : Story) : Type 0 where
   pub moments : Run (AppendMoment file records images old.now.disk) old new
   pub behind : OnOk result ((gate : ℕ) × HoldsOneMore records images place gate (of_file new.now.disk file))
 
 abbrev pub WritesBody : {T E : Type 0} → FileNo → ℕ → List ImageData → Result T E → Story → Story → Type 0
-WritesBody file place images result old new = (records : List (List ImageData)) → IsLogRecord images → Names old.now.disk.master file
+WritesBody file place images result old new = (records : List (List ImageData)) → IsLogRecord images
+    → Names old.now.disk.master file
     → HoldsLog records place (of_file old.now.disk file) → WroteBody file place records images result old new
 
 -- The same while the gate is opened.
-pub record OpenedGate {T E : Type 0} (file : FileNo) (place : ℕ) (records : List (List ImageData)) (images : List ImageData) (result : Result T E) (old new : Story) : Type 0 where
+pub record OpenedGate {T E : Type 0} (file : FileNo) (place : ℕ) (records : List (List ImageData))
+    (images : List ImageData) (result : Result T E) (old new : Story) : Type 0 where
   pub moments : Run (AppendMoment file records images old.now.disk) old new
-  pub holds : OnOk result (HoldsLog (records ++ images ∷ []) (place + length (behind_gate images)) (of_file new.now.disk file))
+  pub holds : OnOk result (HoldsLog (records ++ images ∷ []) (place + length (behind_gate images))
+      (of_file new.now.disk file))
 
 abbrev pub OpensGate : {T E : Type 0} → FileNo → ℕ → Result T E → Story → Story → Type 0
-OpensGate file place result old new = (records : List (List ImageData)) (images : List ImageData) (gate : ℕ) → Names old.now.disk.master file
-    → HoldsOneMore records images place gate (of_file old.now.disk file) → OpenedGate file place records images result old new
+OpensGate file place result old new = (records : List (List ImageData)) (images : List ImageData) (gate : ℕ)
+    → Names old.now.disk.master file
+    → HoldsOneMore records images place gate (of_file old.now.disk file)
+    → OpenedGate file place records images result old new
 
 -- the count never falls, and a call fails so only where it rose
 pub record FailsAs {T E : Type 0} (fault : E) (before now : ℕ) (result : Result T E) : Type 0 where

@@ -3,7 +3,7 @@ use Rattle.std.specs.Prelude.{◌≡◌, ℕ, ◌<◌, ◌≤◌, ◌%◌, ◌==
 use Rattle.ori_volume.specs.declared.file.FileNo.{FileNo}
 use Rattle.ori_volume.specs.declared.file.FileNo.TheVariants.{Master, LogA, LogB, Pages}
 use Rattle.ori_volume.specs.Disk.{of_file, with_file, Disk, Files}
-use Rattle.ori_spec.specs.Log.{FilesData}
+use Rattle.ori_log.specs.Log.{FilesData}
 
 abbrev pub is_log_file : FileNo → Bool
 is_log_file Master = false
@@ -19,8 +19,8 @@ file_named byte = if byte % 2 == 0 then LogA else LogB
 abbrev pub files_data : Files → FilesData
 files_data files = record { master = files.master; log_a = files.log_a; log_b = files.log_b; pages = files.pages }
 
--- No file but this has changed. What it reads as below that place, and what a crash leaves of it there, is as before; and it is
--- at most so long, where it was no longer.
+-- No file but this has changed. What it reads as below that place, and what a crash leaves of it there, is as before;
+-- and it is at most so long, where it was no longer.
 pub record Behind (file : FileNo) (low limit : ℕ) (old new : Disk) : Type 0 where
   pub only : new ≡ with_file old file (of_file new file)
   pub same : take low (of_file new file).bytes ≡ take low (of_file old file).bytes

@@ -4,7 +4,7 @@ use Rattle.ori_bytes.specs.declared.limits.TheConstants.{MAX_LOG_BYTES, MAX_PAGE
 use Rattle.ori_volume.specs.declared.file.FileNo.{FileNo}
 use Rattle.ori_volume.specs.declared.file.FileNo.TheVariants.{Master, LogA, LogB, Pages}
 use Rattle.ori_volume.specs.Disk.{Files}
-use Rattle.ori_spec.specs.Log.{ImageData, IsLog, IsTail, AreWhole}
+use Rattle.ori_log.specs.Log.{ImageData, IsLog, IsTail, AreWhole}
 use Rattle.ori_log.specs.Files.{file_named, files_data}
 
 -- a log that is read: its length, and records that it has
@@ -16,11 +16,13 @@ pub record StandsAsLog (log : List ℕ) : Type 0 where
 -- each file as the form asks, by the master's bytes
 abbrev pub LogStands : FileNo → List ℕ → List ℕ → Type 0
 LogStands which [] log = length log ≤ 1
-LogStands which (byte ∷ bytes) log = (length log ≤ MAX_LOG_BYTES) × (file_named byte ≡ which → (records : List (List ImageData)) × IsLog log records)
+LogStands which (byte ∷ bytes) log = (length log ≤ MAX_LOG_BYTES)
+    × (file_named byte ≡ which → (records : List (List ImageData)) × IsLog log records)
 
 abbrev pub PagesStand : Files → List ℕ → Type 0
 PagesStand files [] = files.pages ≡ []
-PagesStand files (byte ∷ bytes) = (length files.pages ≤ MAX_PAGES_BYTES) × ((records : List (List ImageData)) → IsTail (files_data files) records → AreWhole (files_data files) records)
+PagesStand files (byte ∷ bytes) = (length files.pages ≤ MAX_PAGES_BYTES)
+    × ((records : List (List ImageData)) → IsTail (files_data files) records → AreWhole (files_data files) records)
 
 abbrev pub Stands : Files → FileNo → Type 0
 Stands files Master = length files.master ≤ 1

@@ -2,7 +2,7 @@
 use Rattle.std.specs.Prelude.{◌≡◌, ℕ, ◌+◌, ◌<◌, ◌≤◌, List, [], ◌∷◌, ◌++◌, length, ⊤}
 use Rattle.std.specs.List.{AllByRecursion}
 use Rattle.std.specs.Int.{w32, to_be_bytes}
-use Rattle.ori_spec.specs.Log.{ImageData, body_bytes}
+use Rattle.ori_log.specs.Log.{ImageData, body_bytes}
 use Rattle.ori_log.specs.declared.image.PageImage.{PageImage}
 use Rattle.ori_bytes.specs.declared.limits.TheConstants.{MAX_PAGES, PAGE_BYTES, CLOSED_GATE}
 

@@ -8,3 +8,4 @@ pub mod Tails
 pub mod Forms
 pub mod Measures
 pub mod Attaching
+pub mod Log

@@ -4,7 +4,7 @@ use Rattle.std.specs.List.{AllByRecursion}
 use Rattle.ori_bytes.specs.declared.limits.TheConstants.{OPEN_GATE}
 use Rattle.ori_volume.specs.declared.file.FileNo.{FileNo}
 use Rattle.ori_volume.specs.Disk.{FileData, Files}
-use Rattle.ori_spec.specs.Log.{ImageData, record_bytes, IsLogRecord, IsTail}
+use Rattle.ori_log.specs.Log.{ImageData, record_bytes, IsLogRecord, IsTail}
 use Rattle.ori_log.specs.Files.{file_named, files_data}
 use Rattle.ori_log.specs.Images.{behind_gate}
 
@@ -29,11 +29,13 @@ pub record HoldsLog (records : List (List ImageData)) (place : ℕ) (file : File
   pub least : place < file.least
   pub long : place < length file.bytes
 
--- The file reads as these records, then a gate, then one record more without its gate and a closed gate. A crash leaves it so but
--- for the first of these gates.
-pub record HoldsOneMore (records : List (List ImageData)) (images : List ImageData) (place gate : ℕ) (file : FileData) : Type 0 where
+-- The file reads as these records, then a gate, then one record more without its gate and a closed gate. A crash leaves
+-- it so but for the first of these gates.
+pub record HoldsOneMore (records : List (List ImageData)) (images : List ImageData) (place gate : ℕ)
+    (file : FileData) : Type 0 where
   pub whole : AllByRecursion IsLogRecord (records ++ images ∷ [])
-  pub reads : take (place + 1 + length (behind_gate images)) file.bytes ≡ flat_map record_bytes records ++ gate ∷ behind_gate images
+  pub reads : take (place + 1 + length (behind_gate images)) file.bytes
+      ≡ flat_map record_bytes records ++ gate ∷ behind_gate images
   pub place_is : place ≡ length (flat_map record_bytes records)
   pub firm : (k : ℕ) → k < place + 1 + length (behind_gate images) → k ≢ place → file.loose k ≡ false
   pub least : place + length (behind_gate images) < file.least

@@ -5,7 +5,7 @@ use Rattle.std.specs.BTreeMap.{get}
 use Rattle.ori_bytes.specs.declared.limits.TheConstants.{PAGE_BYTES, MAX_LOG_BYTES, MAX_PAGES_BYTES}
 use Rattle.ori_volume.specs.declared.file.FileNo.{FileNo}
 use Rattle.ori_volume.specs.Disk.{of_file, Files}
-use Rattle.ori_spec.specs.Log.{ImageData, IsLog, AreWhole}
+use Rattle.ori_log.specs.Log.{ImageData, IsLog, AreWhole}
 use Rattle.ori_log.specs.Files.{file_named, files_data}
 use Rattle.ori_log.specs.Tails.{ReadTo}
 use Rattle.ori_log.specs.declared.sizes.Sizes.{Sizes}
@@ -26,7 +26,8 @@ pub record HasActive (sizes : Sizes) (file : FileNo) (files : Files) : Type 0 wh
 
 -- each page without an image in the tail is whole in a file of pages of so many bytes, or isn't there at all
 abbrev pub HomesStand : Tail → ℕ → Type 0
-HomesStand tail long = (page : ℕ) → page < max tail.end ((long + (PAGE_BYTES - 1)) / PAGE_BYTES) → get nat_cmp tail.pages page ≡ None → PAGE_BYTES * (page + 1) ≤ long
+HomesStand tail long = (page : ℕ) → page < max tail.end ((long + (PAGE_BYTES - 1)) / PAGE_BYTES)
+    → get nat_cmp tail.pages page ≡ None → PAGE_BYTES * (page + 1) ≤ long
 
 -- The files of a made volume are of the form, and this is what was read of the log in use.
 pub record IsRead (files : Files) (file : FileNo) (records : List (List ImageData)) (tail : Tail) : Type 0 where

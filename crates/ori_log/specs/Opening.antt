@@ -5,7 +5,7 @@ use Rattle.ori_volume.specs.declared.file.FileNo.{FileNo}
 use Rattle.ori_volume.specs.Disk.{of_file, FileData, Disk, Files, files_of, IsImage}
 use Rattle.ori_volume.specs.Story.{Story, moment_of, Writes, Syncs}
 use Rattle.ori_volume.specs.Runs.{Run, EachImage}
-use Rattle.ori_spec.specs.Log.{IsUnmade, IsMade}
+use Rattle.ori_log.specs.Log.{IsUnmade, IsMade}
 use Rattle.ori_log.specs.Files.{files_data}
 
 -- nothing of a file is loose, nor is its length
@@ -22,7 +22,8 @@ pub record SyncsSound {T E : Type 0} (file : FileNo) (result : Result T E) (old 
   pub sound : IsImage old.now.disk (files_of old.now.disk)
   pub syncs : Syncs file result old new
 
-pub record WritesSound {T E : Type 0} (file : FileNo) (bytes : List ℕ) (result : Result T E) (old new : Story) : Type 0 where
+pub record WritesSound {T E : Type 0} (file : FileNo) (bytes : List ℕ) (result : Result T E)
+    (old new : Story) : Type 0 where
   pub sound : IsImage old.now.disk (files_of old.now.disk)
   pub writes : Writes file 0 bytes result old new
 

@@ -1,11 +1,13 @@
 -- What is read of a log.
-use Rattle.std.specs.Prelude.{◌≡◌, ℕ, ◌+◌, ◌*◌, ◌^◌, ◌≤◌, ◌<◌, max, Bool, true, false, List, [], ◌∷◌, ◌++◌, length, take, drop, flat_map, None}
+use Rattle.std.specs.Prelude.{◌≡◌, ℕ, ◌+◌, ◌*◌, ◌^◌, ◌≤◌, ◌<◌, max, Bool, true, false, List, [], ◌∷◌, ◌++◌, length}
+use Rattle.std.specs.Prelude.{take, drop, flat_map, None}
 use Rattle.std.specs.List.{AllByRecursion}
 use Rattle.std.specs.Int.{w32, to_be_bytes}
 use Rattle.std.specs.Ordering.{nat_cmp}
 use Rattle.std.specs.BTreeMap.{get}
 use Rattle.ori_bytes.specs.declared.limits.TheConstants.{MAX_WEIGHT, MAX_PAGES, PAGE_BYTES}
-use Rattle.ori_spec.specs.Log.{ImageData, image_bytes, record_bytes, IsLogRecord, AreImages, IsLog, images_of, last_image, first_of, pages_named}
+use Rattle.ori_log.specs.Log.{ImageData, image_bytes, record_bytes, IsLogRecord, AreImages, IsLog, images_of}
+use Rattle.ori_log.specs.Log.{last_image, first_of, pages_named}
 use Rattle.ori_log.specs.declared.stage.TheConstants.{IMAGE_BYTES}
 use Rattle.ori_log.specs.declared.tail.Head.{Head}
 use Rattle.ori_log.specs.declared.tail.Tail.{Tail}
@@ -56,7 +58,8 @@ pub record BreaksOff (bytes : List ℕ) (low : ℕ) (image : ImageData) : Type 0
 
 -- no images of a record begin these bytes
 abbrev pub AreNoImages : List ℕ → ℕ → Type 0
-AreNoImages bytes count = (images : List ImageData) (rest : List ℕ) → AreImages 0 images → length images ≡ count → bytes ≡ flat_map image_bytes images ++ rest → ⊥
+AreNoImages bytes count = (images : List ImageData) (rest : List ℕ) → AreImages 0 images → length images ≡ count
+    → bytes ≡ flat_map image_bytes images ++ rest → ⊥
 
 -- What one more read comes to: a further record, or the end of the log.
 abbrev pub ReadsOn : List ℕ → List (List ImageData) → Bool → Tail → Tail → Type 0

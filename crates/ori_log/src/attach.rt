@@ -3,7 +3,7 @@ ghost use Rattle.std.specs.Prelude.{◌≡◌, ◌<◌, ◌≤◌, ℕ, List, So
 ghost use Rattle.ori_volume.specs.declared.file.FileNo.{FileNo};
 ghost use Rattle.ori_volume.specs.Disk.{Files};
 ghost use Rattle.ori_volume.specs.Story.{Tells, Reads};
-ghost use Rattle.ori_spec.specs.Log.{ImageData};
+ghost use Rattle.ori_log.specs.Log.{ImageData};
 ghost use Rattle.ori_log.specs.Appending.{FailsAs};
 ghost use Rattle.ori_log.specs.Attaching.{AttachesTo, AttachesMade, Attaches, AttachesFirm, IsKeptOrMade};
 ghost use Rattle.ori_log.specs.Forms.{BreaksFirst};
@@ -26,14 +26,18 @@ fn attach_new<V: Volume>(
 ) -> Result<(Log, ImageList), LogFault>
     requires measured { IfSome (V.files volume.old) (λ fs. Measures sizes.now fs) }
     requires none { sizes.now.master ≡ 0 }
-    ensures value { IfOk result (λ pair. IfSome (V.files volume.old) (λ fs. (records : List (List ImageData)) × AttachesTo fs records pair.0 pair.1)) }
-    ensures not_a_log { (file : FileNo) → IsErrOf result (LogFault.NotALog file) → IfSome (V.files volume.old) (λ fs. BreaksFirst fs file) }
+    ensures value { IfOk result (λ pair. IfSome (V.files volume.old)
+        (λ fs. (records : List (List ImageData)) × AttachesTo fs records pair.0 pair.1)) }
+    ensures not_a_log { (file : FileNo) → IsErrOf result (LogFault.NotALog file)
+        → IfSome (V.files volume.old) (λ fs. BreaksFirst fs file) }
     ensures never_full { (need room : ℕ) → IsErrOf result (LogFault.LogFull need room) → ⊥ }
-    ensures refused { (file : FileNo) → IsErrOf result (LogFault.NotALog file) → V.files volume.new ≡ V.files volume.old }
+    ensures refused { (file : FileNo) → IsErrOf result (LogFault.NotALog file)
+        → V.files volume.new ≡ V.files volume.old }
     ensures files { OnOk result (Tells IsKeptOrMade (V.files volume.old) (V.files volume.new)) }
     ensures crash { Tells (AttachesFirm result) (V.story volume.old) (V.story volume.new) }
     ensures faults { FailsAs LogFault.Failed (V.faults volume.old) (V.faults volume.new) result }
     ensures log_faults { V.log_faults volume.old ≤ V.log_faults volume.new }
+    ensures log_fine { OnOk result (V.log_faults volume.new ≡ V.log_faults volume.old) }
 {
     if let Some(file) = sizes.long_for_new() {
         return Err(LogFault::NotALog { file });
@@ -51,8 +55,10 @@ fn attach_made<V: Volume>(
 ) -> Result<(Log, ImageList), LogFault>
     requires measured { IfSome (V.files volume.old) (λ fs. Measures sizes.now fs) }
     requires some { 0 < sizes.now.master }
-    ensures value { IfOk result (λ pair. IfSome (V.files volume.old) (λ fs. (records : List (List ImageData)) × AttachesMade fs records pair.0 pair.1)) }
-    ensures not_a_log { (file : FileNo) → IsErrOf result (LogFault.NotALog file) → IfSome (V.files volume.old) (λ fs. BreaksFirst fs file) }
+    ensures value { IfOk result (λ pair. IfSome (V.files volume.old)
+        (λ fs. (records : List (List ImageData)) × AttachesMade fs records pair.0 pair.1)) }
+    ensures not_a_log { (file : FileNo) → IsErrOf result (LogFault.NotALog file)
+        → IfSome (V.files volume.old) (λ fs. BreaksFirst fs file) }
     ensures never_full { (need room : ℕ) → IsErrOf result (LogFault.LogFull need room) → ⊥ }
     ensures files { V.files volume.new ≡ V.files volume.old }
     ensures story { Tells Reads (V.story volume.old) (V.story volume.new) }
@@ -76,14 +82,18 @@ fn attach_firm<V: Volume>(
     volume: &mut V,
     stage: Stage,
 ) -> Result<(Log, ImageList), LogFault>
-    ensures value { IfOk result (λ pair. IfSome (V.files volume.old) (λ fs. (records : List (List ImageData)) × AttachesTo fs records pair.0 pair.1)) }
-    ensures not_a_log { (file : FileNo) → IsErrOf result (LogFault.NotALog file) → IfSome (V.files volume.old) (λ fs. BreaksFirst fs file) }
+    ensures value { IfOk result (λ pair. IfSome (V.files volume.old)
+        (λ fs. (records : List (List ImageData)) × AttachesTo fs records pair.0 pair.1)) }
+    ensures not_a_log { (file : FileNo) → IsErrOf result (LogFault.NotALog file)
+        → IfSome (V.files volume.old) (λ fs. BreaksFirst fs file) }
     ensures never_full { (need room : ℕ) → IsErrOf result (LogFault.LogFull need room) → ⊥ }
-    ensures refused { (file : FileNo) → IsErrOf result (LogFault.NotALog file) → V.files volume.new ≡ V.files volume.old }
+    ensures refused { (file : FileNo) → IsErrOf result (LogFault.NotALog file)
+        → V.files volume.new ≡ V.files volume.old }
     ensures files { OnOk result (Tells IsKeptOrMade (V.files volume.old) (V.files volume.new)) }
     ensures crash { Tells (AttachesFirm result) (V.story volume.old) (V.story volume.new) }
     ensures faults { FailsAs LogFault.Failed (V.faults volume.old) (V.faults volume.new) result }
     ensures log_faults { V.log_faults volume.old ≤ V.log_faults volume.new }
+    ensures log_fine { OnOk result (V.log_faults volume.new ≡ V.log_faults volume.old) }
 {
     let sizes = Sizes::read(volume)?;
     if sizes.master == 0 {
@@ -93,19 +103,24 @@ fn attach_firm<V: Volume>(
 }
 
 impl Log {
-    /// Attaches the log of a volume. All files are made firm first. An empty volume's files are made; of another the records of the
-    /// active log are read, and the list has the last image of each page that they name, pages rising.
+    /// Attaches the log of a volume. All files are made firm first. An empty volume's files are made; of another the
+    /// records of the active log are read, and the list has the last image of each page that they name, pages rising.
     ///
-    /// `NotALog` names the first of Master, LogA, LogB and Pages that breaks the form, and nothing but the syncs has touched the files.
+    /// `NotALog` names the first of Master, LogA, LogB and Pages that breaks the form, and nothing but the syncs has
+    /// touched the files.
     pub fn attach<V: Volume>(alloc: Global, volume: &mut V) -> Result<(Log, ImageList), LogFault>
-        ensures value { IfOk result (λ pair. IfSome (V.files volume.old) (λ fs. (records : List (List ImageData)) × AttachesTo fs records pair.0 pair.1)) }
-        ensures not_a_log { (file : FileNo) → IsErrOf result (LogFault.NotALog file) → IfSome (V.files volume.old) (λ fs. BreaksFirst fs file) }
+        ensures value { IfOk result (λ pair. IfSome (V.files volume.old)
+            (λ fs. (records : List (List ImageData)) × AttachesTo fs records pair.0 pair.1)) }
+        ensures not_a_log { (file : FileNo) → IsErrOf result (LogFault.NotALog file)
+            → IfSome (V.files volume.old) (λ fs. BreaksFirst fs file) }
         ensures never_full { (need room : ℕ) → IsErrOf result (LogFault.LogFull need room) → ⊥ }
-        ensures refused { (file : FileNo) → IsErrOf result (LogFault.NotALog file) → V.files volume.new ≡ V.files volume.old }
+        ensures refused { (file : FileNo) → IsErrOf result (LogFault.NotALog file)
+            → V.files volume.new ≡ V.files volume.old }
         ensures files { OnOk result (Tells IsKeptOrMade (V.files volume.old) (V.files volume.new)) }
         ensures crash { Tells (Attaches result) (V.story volume.old) (V.story volume.new) }
         ensures faults { FailsAs LogFault.Failed (V.faults volume.old) (V.faults volume.new) result }
         ensures log_faults { V.log_faults volume.old ≤ V.log_faults volume.new }
+        ensures log_fine { OnOk result (V.log_faults volume.new ≡ V.log_faults volume.old) }
     {
         let stage = Stage::new(alloc)?;
         settle(volume)?;

@@ -6,7 +6,7 @@ ghost use Rattle.ori_volume.specs.Causes.{HasCause};
 ghost use Rattle.ori_volume.specs.declared.file.FileNo.{FileNo};
 ghost use Rattle.ori_volume.specs.Disk.{of_file};
 ghost use Rattle.ori_volume.specs.Story.{Tells, Reads};
-ghost use Rattle.ori_spec.specs.Log.{ImageData, IsLog};
+ghost use Rattle.ori_log.specs.Log.{ImageData, IsLog};
 ghost use Rattle.ori_log.specs.Files.{is_log_file, file_named};
 ghost use Rattle.ori_log.specs.Appending.{FailsAs};
 ghost use Rattle.ori_log.specs.Forms.{StandsAsLog, BreaksFirst};
@@ -34,7 +34,8 @@ fn named_by(byte: u8) -> FileNo
 
 /// The log that the master names.
 pub fn active_file<V: Volume>(volume: &mut V) -> Result<FileNo, Failed>
-    ensures value { IfOk result (λ file. IfSome (V.files volume.old) (λ fs. file ≡ file_named (slice_index fs.master 0))) }
+    ensures value { IfOk result (λ file. IfSome (V.files volume.old)
+        (λ fs. file ≡ file_named (slice_index fs.master 0))) }
     ensures in_log { IfOk result (λ file. IsTrue (is_log_file file)) }
     ensures files { V.files volume.new ≡ V.files volume.old }
     ensures story { Tells Reads (V.story volume.old) (V.story volume.new) }
@@ -71,11 +72,13 @@ fn read_active<V: Volume>(
 ) -> Result<Tail, LogFault>
     requires measured { IfSome (V.files volume.old) (λ fs. Measures sizes.now fs) }
     ensures value { IfOk result (λ tail. IfSome (V.files volume.old) (λ fs. (length (of_file fs file) ≤ MAX_LOG_BYTES)
-        × (records : List (List ImageData)) × IsLog (of_file fs file) records × ReadTo (of_file fs file) records tail)) }
+        × (records : List (List ImageData)) × IsLog (of_file fs file) records
+        × ReadTo (of_file fs file) records tail)) }
     ensures within { IfOk result (λ tail. tail.place < MAX_LOG_BYTES) }
     ensures counted { IfOk result (λ tail. tail.records ≤ tail.place) }
     ensures bounded { IfOk result (λ tail. (page : ℕ) → MAX_PAGES ≤ page → get nat_cmp tail.pages page ≡ None) }
-    ensures not_a_log { (named : FileNo) → IsErrOf result (LogFault.NotALog named) → (named ≡ file) × IfSome (V.files volume.old) (λ fs. StandsAsLog (of_file fs file) → ⊥) }
+    ensures not_a_log { (named : FileNo) → IsErrOf result (LogFault.NotALog named) → (named ≡ file)
+        × IfSome (V.files volume.old) (λ fs. StandsAsLog (of_file fs file) → ⊥) }
     ensures never_full { (need room : ℕ) → IsErrOf result (LogFault.LogFull need room) → ⊥ }
     ensures files { V.files volume.new ≡ V.files volume.old }
     ensures story { Tells Reads (V.story volume.old) (V.story volume.new) }
@@ -97,11 +100,13 @@ pub fn read_made<V: Volume>(
     file: FileNo,
 ) -> Result<Tail, LogFault>
     requires measured { IfSome (V.files volume.old) (λ fs. HasActive sizes.now file fs) }
-    ensures value { IfOk result (λ tail. IfSome (V.files volume.old) (λ fs. (records : List (List ImageData)) × IsRead fs file records tail)) }
+    ensures value { IfOk result (λ tail. IfSome (V.files volume.old)
+        (λ fs. (records : List (List ImageData)) × IsRead fs file records tail)) }
     ensures within { IfOk result (λ tail. tail.place < MAX_LOG_BYTES) }
     ensures counted { IfOk result (λ tail. tail.records ≤ tail.place) }
     ensures bounded { IfOk result (λ tail. (page : ℕ) → MAX_PAGES ≤ page → get nat_cmp tail.pages page ≡ None) }
-    ensures not_a_log { (named : FileNo) → IsErrOf result (LogFault.NotALog named) → IfSome (V.files volume.old) (λ fs. BreaksFirst fs named) }
+    ensures not_a_log { (named : FileNo) → IsErrOf result (LogFault.NotALog named)
+        → IfSome (V.files volume.old) (λ fs. BreaksFirst fs named) }
     ensures never_full { (need room : ℕ) → IsErrOf result (LogFault.LogFull need room) → ⊥ }
     ensures files { V.files volume.new ≡ V.files volume.old }
     ensures story { Tells Reads (V.story volume.old) (V.story volume.new) }

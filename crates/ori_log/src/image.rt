@@ -9,7 +9,7 @@ use std::alloc::Global;
 use std::marker::Model;
 
 /// A page as a commit leaves it.
-#[derive(Debug, Drop)]
+#[derive(Drop)]
 pub struct PageImage {
     /// The number of the page, below 2^20.
     pub page: u32,
@@ -44,14 +44,14 @@ fn all_whole(images: &[PageImage])
 }
 
 /// A list of pages as a commit leaves them.
-#[derive(Debug, Drop)]
+#[derive(Drop)]
 pub struct ImageList {
     images: Vec<PageImage>,
 }
 
 impl Model for ImageList {
     ghost use Rattle.std.specs.Prelude.{List, map};
-    ghost use Rattle.ori_spec.specs.Log.{ImageData};
+    ghost use Rattle.ori_log.specs.Log.{ImageData};
     ghost use Rattle.std.specs.List.{AllByRecursion};
     ghost use Rattle.ori_log.specs.Images.{image_data, IsWhole};
 

@@ -1,7 +1,7 @@
 //! The write-ahead log: records of page images in one of two files, each behind a gate, and the last gate closed.
 //!
-//! A record is written whole behind its closed gate and made firm before the gate is opened, so that a crash leaves the records
-//! from before it, or those and the new one. No checksum is used.
+//! A record is written whole behind its closed gate and made firm before the gate is opened, so that a crash leaves the
+//! records from before it, or those and the new one. No checksum is used.
 #![tactic(auto)]
 
 mod attach;
@@ -17,6 +17,3 @@ mod tail;
 pub use fault::LogFault;
 pub use image::{ImageList, PageImage};
 pub use log::Log;
-
-#[cfg(test)]
-mod tests;

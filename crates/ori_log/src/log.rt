@@ -9,7 +9,7 @@ use ori_bytes::limits::{MAX_LOG_BYTES, MAX_WEIGHT, OPEN_GATE};
 use ori_volume::{Failed, FileNo, Volume};
 
 /// The log of an attached volume: whole records in one of two files, and a closed gate behind them.
-#[derive(Debug, Drop)]
+#[derive(Drop)]
 pub struct Log {
     file: FileNo,
     // The number of records.
@@ -59,17 +59,19 @@ impl Log {
         MAX_LOG_BYTES - self.place
     }
 
-    /// Adds a record of these images; takes no memory. At `Ok` every crash from then on leaves a log that has it. `LogFull`
-    /// comes exactly where the record needs more than there is room for, and nothing has changed then. At `Failed` a crash
-    /// leaves the records from before, or those and this one, and the log is to be attached anew.
+    /// Adds a record of these images; takes no memory. At `Ok` every crash from then on leaves a log that has it.
+    /// `LogFull` comes exactly where the record needs more than there is room for, and nothing has changed then. At
+    /// `Failed` a crash leaves the records from before, or those and this one, and the log is to be attached anew.
     pub fn append<V: Volume>(&mut self, volume: &mut V, images: &ImageList) -> Result<(), LogFault>
         requires some { 0 < length images.now }
         requires few { length images.now ≤ MAX_WEIGHT }
         requires rising { AreRising 0 images.now }
-        ensures full { room_of self.old < need_of images.now → (result ≡ Err (LogFault.LogFull (need_of images.now) (room_of self.old)))
+        ensures full { room_of self.old < need_of images.now
+            → (result ≡ Err (LogFault.LogFull (need_of images.now) (room_of self.old)))
             × (self.new ≡ self.old) × (volume.new ≡ volume.old) }
         ensures fits { need_of images.now ≤ room_of self.old → OnErr result (result ≡ Err LogFault.Failed) }
-        ensures counts { OnOk result ((self.new.tail ≡ self.old.tail + 1) × (self.new.place ≡ self.old.place + (need_of images.now - 1)) × (self.new.file ≡ self.old.file)) }
+        ensures counts { OnOk result ((self.new.tail ≡ self.old.tail + 1)
+            × (self.new.place ≡ self.old.place + (need_of images.now - 1)) × (self.new.file ≡ self.old.file)) }
         ensures crash { Tells (Appends self.old self.new images.now result) (V.story volume.old) (V.story volume.new) }
         ensures faults { FailsAs LogFault.Failed (V.faults volume.old) (V.faults volume.new) result }
         ensures log_faults { FailsAs LogFault.Failed (V.log_faults volume.old) (V.log_faults volume.new) result }
@@ -91,8 +93,10 @@ impl Log {
     fn write_body<V: Volume>(&mut self, volume: &mut V, images: &ImageList) -> Result<(), Failed>
         requires few { length images.now ≤ MAX_WEIGHT }
         requires fits { self.old.place + 10 + IMAGE_BYTES * length images.now ≤ MAX_LOG_BYTES }
-        ensures same { (self.new.file ≡ self.old.file) × (self.new.place ≡ self.old.place) × (self.new.tail ≡ self.old.tail) }
-        ensures crash { Tells (WritesBody self.old.file self.old.place images.now result) (V.story volume.old) (V.story volume.new) }
+        ensures same { (self.new.file ≡ self.old.file) × (self.new.place ≡ self.old.place)
+            × (self.new.tail ≡ self.old.tail) }
+        ensures crash { Tells (WritesBody self.old.file self.old.place images.now result) (V.story volume.old)
+            (V.story volume.new) }
         ensures faults { HasCause (V.faults volume.old) (V.faults volume.new) result }
         ensures log_faults { HasCause (V.log_faults volume.old) (V.log_faults volume.new) result }
         ensures log_fine { OnOk result (V.log_faults volume.new ≡ V.log_faults volume.old) }
@@ -106,7 +110,8 @@ impl Log {
     // Opens the gate before a firm record, and makes that firm.
     fn open_gate<V: Volume>(&mut self, volume: &mut V) -> Result<(), Failed>
         ensures same { self.new ≡ self.old }
-        ensures crash { Tells (OpensGate self.old.file self.old.place result) (V.story volume.old) (V.story volume.new) }
+        ensures crash { Tells (OpensGate self.old.file self.old.place result) (V.story volume.old)
+            (V.story volume.new) }
         ensures faults { HasCause (V.faults volume.old) (V.faults volume.new) result }
         ensures log_faults { HasCause (V.log_faults volume.old) (V.log_faults volume.new) result }
         ensures log_fine { OnOk result (V.log_faults volume.new ≡ V.log_faults volume.old) }

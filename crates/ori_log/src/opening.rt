@@ -16,6 +16,7 @@ fn sync_one<V: Volume>(volume: &mut V, file: FileNo) -> Result<(), Failed>
     ensures crash { Tells (SyncsSound file result) (V.story volume.old) (V.story volume.new) }
     ensures faults { HasCause (V.faults volume.old) (V.faults volume.new) result }
     ensures log_faults { V.log_faults volume.old ≤ V.log_faults volume.new }
+    ensures log_fine { OnOk result (V.log_faults volume.new ≡ V.log_faults volume.old) }
 {
     volume.sync(file)
 }
@@ -25,6 +26,7 @@ fn write_first<V: Volume>(volume: &mut V, file: FileNo, byte: u8) -> Result<(), 
     ensures crash { Tells (WritesSound file (byte ∷ []) result) (V.story volume.old) (V.story volume.new) }
     ensures faults { HasCause (V.faults volume.old) (V.faults volume.new) result }
     ensures log_faults { V.log_faults volume.old ≤ V.log_faults volume.new }
+    ensures log_fine { OnOk result (V.log_faults volume.new ≡ V.log_faults volume.old) }
 {
     volume.write_at(file, 0, &[byte])
 }
@@ -35,6 +37,7 @@ pub fn settle<V: Volume>(volume: &mut V) -> Result<(), Failed>
     ensures crash { Tells (Settles result) (V.story volume.old) (V.story volume.new) }
     ensures faults { HasCause (V.faults volume.old) (V.faults volume.new) result }
     ensures log_faults { V.log_faults volume.old ≤ V.log_faults volume.new }
+    ensures log_fine { OnOk result (V.log_faults volume.new ≡ V.log_faults volume.old) }
 {
     sync_one(volume, FileNo::Master)?;
     sync_one(volume, FileNo::LogA)?;
@@ -48,6 +51,7 @@ fn make_logs<V: Volume>(volume: &mut V) -> Result<(), Failed>
     ensures crash { Tells (MakesLogs result) (V.story volume.old) (V.story volume.new) }
     ensures faults { HasCause (V.faults volume.old) (V.faults volume.new) result }
     ensures log_faults { V.log_faults volume.old ≤ V.log_faults volume.new }
+    ensures log_fine { OnOk result (V.log_faults volume.new ≡ V.log_faults volume.old) }
 {
     write_first(volume, FileNo::LogA, CLOSED_GATE)?;
     write_first(volume, FileNo::LogB, CLOSED_GATE)?;
@@ -57,10 +61,12 @@ fn make_logs<V: Volume>(volume: &mut V) -> Result<(), Failed>
 
 // Makes the master, which names the first log.
 fn make_master<V: Volume>(volume: &mut V) -> Result<(), Failed>
-    ensures files { OnOk result (Tells (λ old new. HasLogs old → new ≡ made_files) (V.files volume.old) (V.files volume.new)) }
+    ensures files { OnOk result (Tells (λ old new. HasLogs old → new ≡ made_files) (V.files volume.old)
+        (V.files volume.new)) }
     ensures crash { Tells (MakesMaster result) (V.story volume.old) (V.story volume.new) }
     ensures faults { HasCause (V.faults volume.old) (V.faults volume.new) result }
     ensures log_faults { V.log_faults volume.old ≤ V.log_faults volume.new }
+    ensures log_fine { OnOk result (V.log_faults volume.new ≡ V.log_faults volume.old) }
 {
     write_first(volume, FileNo::Master, FIRST_MASTER)?;
     sync_one(volume, FileNo::Master)
@@ -68,10 +74,12 @@ fn make_master<V: Volume>(volume: &mut V) -> Result<(), Failed>
 
 /// Makes the files of an empty volume. The logs are firm before the master names one of them.
 pub fn make<V: Volume>(volume: &mut V) -> Result<(), Failed>
-    ensures files { OnOk result (Tells (λ old new. IsNew old → new ≡ made_files) (V.files volume.old) (V.files volume.new)) }
+    ensures files { OnOk result (Tells (λ old new. IsNew old → new ≡ made_files) (V.files volume.old)
+        (V.files volume.new)) }
     ensures crash { Tells (Makes result) (V.story volume.old) (V.story volume.new) }
     ensures faults { HasCause (V.faults volume.old) (V.faults volume.new) result }
     ensures log_faults { V.log_faults volume.old ≤ V.log_faults volume.new }
+    ensures log_fine { OnOk result (V.log_faults volume.new ≡ V.log_faults volume.old) }
 {
     make_logs(volume)?;
     make_master(volume)

@@ -8,7 +8,7 @@ ghost use Rattle.ori_volume.specs.Story.{Tells, Reads};
 use ori_volume::{Failed, FileNo, Volume};
 
 /// The lengths of the four files.
-#[derive(Clone, Copy, Debug)]
+#[derive(Clone, Copy)]
 pub struct Sizes {
     pub master: u64,
     pub log_a: u64,
@@ -43,7 +43,8 @@ impl Sizes {
 
     /// The first file that is too long for a volume without a master.
     pub fn long_for_new(&self) -> Option<FileNo>
-        ensures long { IfSome result (λ file. (fs : Files) → Measures self.now fs → fs.master ≡ [] → BreaksFirst fs file) }
+        ensures long { IfSome result (λ file. (fs : Files) → Measures self.now fs → fs.master ≡ []
+            → BreaksFirst fs file) }
         ensures fits { result ≡ None → (fs : Files) → Measures self.now fs → fs.master ≡ [] → IsNew fs }
     {
         if self.log_a > 1 {

@@ -18,7 +18,7 @@ pub const STAGE_BYTES: usize = 1 << 16;
 pub const IMAGE_BYTES: u64 = 4 + PAGE_BYTES as u64;
 
 /// Bytes on their way to a file.
-#[derive(Debug, Drop)]
+#[derive(Drop)]
 pub struct Stage {
     pub buffer: Vec<u8>,
     /// How many bytes of the buffer wait to be written.
@@ -33,7 +33,7 @@ impl Stage {
     ghost use Rattle.ori_log.specs.Staging.{Stages};
     ghost use Rattle.ori_log.specs.Files.{is_log_file};
     ghost use Rattle.ori_log.specs.Images.{image_data, behind_gate};
-    ghost use Rattle.ori_spec.specs.Log.{image_bytes};
+    ghost use Rattle.ori_log.specs.Log.{image_bytes};
 
     /// An empty one; it takes the memory of its buffer.
     pub fn new(alloc: Global) -> Result<Self, NoMemory> {
@@ -100,7 +100,8 @@ impl Stage {
         requires { self.old.filled + length bytes.now ≤ STAGE_BYTES }
         ensures place { self.new.at ≡ self.old.at }
         ensures count { self.new.filled ≡ self.old.filled + length bytes.now }
-        ensures value { take self.new.filled self.new.buffer.items ≡ take self.old.filled self.old.buffer.items ++ bytes.now }
+        ensures value { take self.new.filled self.new.buffer.items
+            ≡ take self.old.filled self.old.buffer.items ++ bytes.now }
     {
         let end = self.filled + bytes.len();
         self.buffer[self.filled..end].copy_from_slice(bytes);
@@ -117,9 +118,11 @@ impl Stage {
         requires log_file { IsTrue (is_log_file file) }
         requires piece { length bytes.now ≤ STAGE_BYTES }
         requires room { self.old.at + self.old.filled + length bytes.now ≤ MAX_LOG_BYTES }
-        ensures reached { OnOk result (self.new.at + self.new.filled ≡ self.old.at + self.old.filled + length bytes.now) }
+        ensures reached { OnOk result (self.new.at + self.new.filled
+            ≡ self.old.at + self.old.filled + length bytes.now) }
         ensures later { self.old.at ≤ self.new.at }
-        ensures crash { Tells (Stages file self.old self.new bytes.now result) (V.story volume.old) (V.story volume.new) }
+        ensures crash { Tells (Stages file self.old self.new bytes.now result) (V.story volume.old)
+            (V.story volume.new) }
         ensures faults { HasCause (V.faults volume.old) (V.faults volume.new) result }
         ensures log_faults { HasCause (V.log_faults volume.old) (V.log_faults volume.new) result }
         ensures log_fine { OnOk result (V.log_faults volume.new ≡ V.log_faults volume.old) }
@@ -140,7 +143,8 @@ impl Stage {
         requires room { self.old.at + self.old.filled + IMAGE_BYTES ≤ MAX_LOG_BYTES }
         ensures reached { OnOk result (self.new.at + self.new.filled ≡ self.old.at + self.old.filled + IMAGE_BYTES) }
         ensures later { self.old.at ≤ self.new.at }
-        ensures crash { Tells (Stages file self.old self.new (image_bytes (image_data image.now)) result) (V.story volume.old) (V.story volume.new) }
+        ensures crash { Tells (Stages file self.old self.new (image_bytes (image_data image.now)) result)
+            (V.story volume.old) (V.story volume.new) }
         ensures faults { HasCause (V.faults volume.old) (V.faults volume.new) result }
         ensures log_faults { HasCause (V.log_faults volume.old) (V.log_faults volume.new) result }
         ensures log_fine { OnOk result (V.log_faults volume.new ≡ V.log_faults volume.old) }
@@ -158,9 +162,11 @@ impl Stage {
     ) -> Result<(), Failed>
         requires log_file { IsTrue (is_log_file file) }
         requires room { self.old.at + self.old.filled + IMAGE_BYTES * length images.now ≤ MAX_LOG_BYTES }
-        ensures reached { OnOk result (self.new.at + self.new.filled ≡ self.old.at + self.old.filled + IMAGE_BYTES * length images.now) }
+        ensures reached { OnOk result (self.new.at + self.new.filled
+            ≡ self.old.at + self.old.filled + IMAGE_BYTES * length images.now) }
         ensures later { self.old.at ≤ self.new.at }
-        ensures crash { Tells (Stages file self.old self.new (flat_map image_bytes (map image_data images.now)) result) (V.story volume.old) (V.story volume.new) }
+        ensures crash { Tells (Stages file self.old self.new (flat_map image_bytes (map image_data images.now)) result)
+            (V.story volume.old) (V.story volume.new) }
         ensures faults { HasCause (V.faults volume.old) (V.faults volume.new) result }
         ensures log_faults { HasCause (V.log_faults volume.old) (V.log_faults volume.new) result }
         ensures log_fine { OnOk result (V.log_faults volume.new ≡ V.log_faults volume.old) }
@@ -183,7 +189,8 @@ impl Stage {
         requires room { self.old.at + self.old.filled + 8 ≤ MAX_LOG_BYTES }
         ensures reached { OnOk result (self.new.at + self.new.filled ≡ self.old.at + self.old.filled + 8) }
         ensures later { self.old.at ≤ self.new.at }
-        ensures crash { Tells (Stages file self.old self.new (to_be_bytes w32 (4 + IMAGE_BYTES * count) ++ to_be_bytes w32 count) result)
+        ensures crash { Tells (Stages file self.old self.new
+            (to_be_bytes w32 (4 + IMAGE_BYTES * count) ++ to_be_bytes w32 count) result)
             (V.story volume.old) (V.story volume.new) }
         ensures faults { HasCause (V.faults volume.old) (V.faults volume.new) result }
         ensures log_faults { HasCause (V.log_faults volume.old) (V.log_faults volume.new) result }
@@ -201,7 +208,8 @@ impl Stage {
         ensures reached { OnOk result (self.new.at ≡ self.old.at + self.old.filled + 1) }
         ensures empty { OnOk result (self.new.filled ≡ 0) }
         ensures later { self.old.at ≤ self.new.at }
-        ensures crash { Tells (Stages file self.old self.new (CLOSED_GATE ∷ []) result) (V.story volume.old) (V.story volume.new) }
+        ensures crash { Tells (Stages file self.old self.new (CLOSED_GATE ∷ []) result) (V.story volume.old)
+            (V.story volume.new) }
         ensures faults { HasCause (V.faults volume.old) (V.faults volume.new) result }
         ensures log_faults { HasCause (V.log_faults volume.old) (V.log_faults volume.new) result }
         ensures log_fine { OnOk result (V.log_faults volume.new ≡ V.log_faults volume.old) }
@@ -220,9 +228,11 @@ impl Stage {
         requires log_file { IsTrue (is_log_file file) }
         requires few { length images.now ≤ MAX_WEIGHT }
         requires room { self.old.at + self.old.filled + 9 + IMAGE_BYTES * length images.now ≤ MAX_LOG_BYTES }
-        ensures reached { OnOk result (self.new.at ≡ self.old.at + self.old.filled + 9 + IMAGE_BYTES * length images.now) }
+        ensures reached { OnOk result (self.new.at
+            ≡ self.old.at + self.old.filled + 9 + IMAGE_BYTES * length images.now) }
         ensures empty { OnOk result (self.new.filled ≡ 0) }
-        ensures crash { Tells (Stages file self.old self.new (behind_gate images.now) result) (V.story volume.old) (V.story volume.new) }
+        ensures crash { Tells (Stages file self.old self.new (behind_gate images.now) result) (V.story volume.old)
+            (V.story volume.new) }
         ensures faults { HasCause (V.faults volume.old) (V.faults volume.new) result }
         ensures log_faults { HasCause (V.log_faults volume.old) (V.log_faults volume.new) result }
         ensures log_fine { OnOk result (V.log_faults volume.new ≡ V.log_faults volume.old) }

@@ -5,7 +5,7 @@ ghost use Rattle.ori_volume.specs.Disk.{of_file};
 ghost use Rattle.ori_volume.specs.Effects.{read_bytes};
 ghost use Rattle.ori_volume.specs.Story.{Tells, Reads};
 ghost use Rattle.ori_volume.specs.declared.file.FileNo.{FileNo};
-ghost use Rattle.ori_spec.specs.Log.{ImageData, image_bytes};
+ghost use Rattle.ori_log.specs.Log.{ImageData, image_bytes};
 ghost use Rattle.ori_log.specs.Images.{image_data, IsWhole};
 ghost use Rattle.ori_log.specs.Tails.{head_bytes, Fits, BreaksOff};
 ghost use Rattle.ori_log.specs.Appending.{FailsAs};
@@ -36,7 +36,7 @@ pub struct Tail {
 }
 
 // The bytes before a record's images.
-#[derive(Clone, Copy, Debug)]
+#[derive(Clone, Copy)]
 struct Head {
     gate: u8,
     body: u32,
@@ -45,7 +45,8 @@ struct Head {
 
 impl Head {
     fn read<V: Volume>(volume: &mut V, file: FileNo, at: u64) -> Result<Self, Failed>
-        ensures value { IfOk result (λ head. IfSome (V.files volume.old) (λ fs. read_bytes (of_file fs file) at HEAD_BYTES ≡ head_bytes head)) }
+        ensures value { IfOk result (λ head. IfSome (V.files volume.old)
+            (λ fs. read_bytes (of_file fs file) at HEAD_BYTES ≡ head_bytes head)) }
         ensures files { V.files volume.new ≡ V.files volume.old }
         ensures story { Tells Reads (V.story volume.old) (V.story volume.new) }
         ensures faults { HasCause (V.faults volume.old) (V.faults volume.new) result }
@@ -67,8 +68,8 @@ impl Head {
         }
     }
 
-    // Whether a record of this head can end before so many bytes, with the next gate behind it. Callers learn too that its numbers
-    // have 32 bits.
+    // Whether a record of this head can end before so many bytes, with the next gate behind it. Callers learn too that
+    // its numbers have 32 bits.
     fn fits(&self, room: u64) -> bool
         ensures value { IsTrue result ↔ Fits self.now room }
         ensures small { (self.now.body < 2 ^ 32) × (self.now.count < 2 ^ 32) }
@@ -97,7 +98,8 @@ fn read_image<V: Volume>(
     file: FileNo,
     at: u64,
 ) -> Result<PageImage, LogFault>
-    ensures value { IfOk result (λ image. IfSome (V.files volume.old) (λ fs. read_bytes (of_file fs file) at IMAGE_BYTES ≡ image_bytes (image_data image))) }
+    ensures value { IfOk result (λ image. IfSome (V.files volume.old)
+        (λ fs. read_bytes (of_file fs file) at IMAGE_BYTES ≡ image_bytes (image_data image))) }
     ensures whole { IfOk result (λ image. IsWhole (image_data image)) }
     ensures fault { IfErr result (λ fault. (fault ≡ LogFault.Failed) ⊎ (fault ≡ LogFault.NoMemory)) }
     ensures files { V.files volume.new ≡ V.files volume.old }
@@ -110,7 +112,8 @@ fn read_image<V: Volume>(
     Ok(image_of(alloc, &bytes)?)
 }
 
-// Whether an image of this page may stand behind images of pages below `low` alone. Callers learn too that the number has 32 bits.
+// Whether an image of this page may stand behind images of pages below `low` alone. Callers learn too that the number
+// has 32 bits.
 fn follows(page: u32, low: u32) -> bool
     ensures value { IsTrue result ↔ (low ≤ page) × (page < MAX_PAGES) }
     ensures small { page < 2 ^ 32 }
@@ -126,10 +129,12 @@ fn read_next<V: Volume>(
     at: u64,
     low: u32,
 ) -> Result<PageImage, LogFault>
-    ensures value { IfOk result (λ image. IfSome (V.files volume.old) (λ fs. read_bytes (of_file fs file) at IMAGE_BYTES ≡ image_bytes (image_data image))) }
+    ensures value { IfOk result (λ image. IfSome (V.files volume.old)
+        (λ fs. read_bytes (of_file fs file) at IMAGE_BYTES ≡ image_bytes (image_data image))) }
     ensures whole { IfOk result (λ image. IsWhole (image_data image)) }
     ensures follows { IfOk result (λ image. (low ≤ image.page) × (image.page < MAX_PAGES)) }
-    ensures not_a_log { (named : FileNo) → IsErrOf result (LogFault.NotALog named) → (named ≡ file) × IfSome (V.files volume.old) (λ fs.
+    ensures not_a_log { (named : FileNo) → IsErrOf result (LogFault.NotALog named) → (named ≡ file)
+        × IfSome (V.files volume.old) (λ fs.
         (image : ImageData) × BreaksOff (read_bytes (of_file fs file) at IMAGE_BYTES) low image) }
     ensures never_full { (need room : ℕ) → IsErrOf result (LogFault.LogFull need room) → ⊥ }
     ensures files { V.files volume.new ≡ V.files volume.old }
@@ -147,7 +152,7 @@ fn read_next<V: Volume>(
 impl Tail {
     ghost use Rattle.std.specs.BTreeMap.{get};
     ghost use Rattle.std.specs.Ordering.{nat_cmp};
-    ghost use Rattle.ori_spec.specs.Log.{IsLog, last_image};
+    ghost use Rattle.ori_log.specs.Log.{IsLog, last_image};
     ghost use Rattle.ori_log.specs.Images.{AreRising};
     ghost use Rattle.ori_log.specs.Tails.{ReadTo, AddsImages, AreNoImages, IsBounded, IsNoLog, ReadsOn};
 
@@ -174,13 +179,17 @@ impl Tail {
         count: u32,
     ) -> Result<(), LogFault>
         requires room { self.old.place + 9 + IMAGE_BYTES * count ≤ MAX_LOG_BYTES }
-        ensures value { OnOk result (IfSome (V.files volume.old) (λ fs. self.old.place + 9 + IMAGE_BYTES * count ≤ length (of_file fs file)
-            → (images : List ImageData) × AddsImages (of_file fs file) (self.old.place + 9) count images self.old self.new)) }
+        ensures value { OnOk result (IfSome (V.files volume.old)
+            (λ fs. self.old.place + 9 + IMAGE_BYTES * count ≤ length (of_file fs file)
+            → (images : List ImageData) × AddsImages (of_file fs file)
+            (self.old.place + 9) count images self.old self.new)) }
         ensures place { self.new.place ≡ self.old.place }
         ensures records { self.new.records ≡ self.old.records }
         ensures bounded { IsBounded self.old → IsBounded self.new }
-        ensures not_a_log { (named : FileNo) → IsErrOf result (LogFault.NotALog named) → (named ≡ file) × IfSome (V.files volume.old) (λ fs.
-            self.old.place + 9 + IMAGE_BYTES * count ≤ length (of_file fs file) → AreNoImages (drop (self.old.place + 9) (of_file fs file)) count) }
+        ensures not_a_log { (named : FileNo) → IsErrOf result (LogFault.NotALog named) → (named ≡ file)
+            × IfSome (V.files volume.old) (λ fs.
+            self.old.place + 9 + IMAGE_BYTES * count ≤ length (of_file fs file)
+            → AreNoImages (drop (self.old.place + 9) (of_file fs file)) count) }
         ensures never_full { (need room : ℕ) → IsErrOf result (LogFault.LogFull need room) → ⊥ }
         ensures files { V.files volume.new ≡ V.files volume.old }
         ensures story { Tells Reads (V.story volume.old) (V.story volume.new) }
@@ -210,13 +219,16 @@ impl Tail {
         requires short { len ≤ MAX_LOG_BYTES }
         requires counted { self.old.records ≤ self.old.place }
         ensures value { IfOk result (λ more. IfSome (V.files volume.old) (λ fs. len ≡ length (of_file fs file)
-            → (records : List (List ImageData)) → ReadTo (of_file fs file) records self.old → ReadsOn (of_file fs file) records more self.old self.new)) }
+            → (records : List (List ImageData)) → ReadTo (of_file fs file) records self.old
+            → ReadsOn (of_file fs file) records more self.old self.new)) }
         ensures within { OnOk result (self.new.place < len) }
         ensures further { IfOk result (λ more. IsTrue more → self.old.place < self.new.place) }
         ensures counted { OnOk result (self.new.records ≤ self.new.place) }
         ensures bounded { IsBounded self.old → IsBounded self.new }
-        ensures not_a_log { (named : FileNo) → IsErrOf result (LogFault.NotALog named) → (named ≡ file) × IfSome (V.files volume.old) (λ fs. len ≡ length (of_file fs file)
-            → (records : List (List ImageData)) → ReadTo (of_file fs file) records self.old → IsNoLog (of_file fs file)) }
+        ensures not_a_log { (named : FileNo) → IsErrOf result (LogFault.NotALog named) → (named ≡ file)
+            × IfSome (V.files volume.old) (λ fs. len ≡ length (of_file fs file)
+            → (records : List (List ImageData)) → ReadTo (of_file fs file) records self.old
+            → IsNoLog (of_file fs file)) }
         ensures never_full { (need room : ℕ) → IsErrOf result (LogFault.LogFull need room) → ⊥ }
         ensures files { V.files volume.new ≡ V.files volume.old }
         ensures story { Tells Reads (V.story volume.old) (V.story volume.new) }
@@ -248,11 +260,13 @@ impl Tail {
     ) -> Result<Self, LogFault>
         requires short { len ≤ MAX_LOG_BYTES }
         ensures value { IfOk result (λ tail. IfSome (V.files volume.old) (λ fs. len ≡ length (of_file fs file)
-            → (records : List (List ImageData)) × IsLog (of_file fs file) records × ReadTo (of_file fs file) records tail)) }
+            → (records : List (List ImageData)) × IsLog (of_file fs file) records
+            × ReadTo (of_file fs file) records tail)) }
         ensures within { IfOk result (λ tail. tail.place < len) }
         ensures counted { IfOk result (λ tail. tail.records ≤ tail.place) }
         ensures bounded { IfOk result (λ tail. (page : ℕ) → MAX_PAGES ≤ page → get nat_cmp tail.pages page ≡ None) }
-        ensures not_a_log { (named : FileNo) → IsErrOf result (LogFault.NotALog named) → (named ≡ file) × IfSome (V.files volume.old) (λ fs.
+        ensures not_a_log { (named : FileNo) → IsErrOf result (LogFault.NotALog named) → (named ≡ file)
+            × IfSome (V.files volume.old) (λ fs.
             len ≡ length (of_file fs file) → IsNoLog (of_file fs file)) }
         ensures never_full { (need room : ℕ) → IsErrOf result (LogFault.LogFull need room) → ⊥ }
         ensures files { V.files volume.new ≡ V.files volume.old }

@@ -1,9 +1,17 @@
 -- The plain data that the code's schemas, records, bases, changes and entries stand for.
 use Rattle.std.specs.Prelude.{ℕ, ℤ, pos, negsuc, List, map}
-use Rattle.ori_spec.specs.Base.{KindData, of_boolean, of_integer, of_short, of_long, of_datetime, of_str, of_binary, of_embedded, of_embedded_list, of_embedded_map, of_link, of_link_list, of_link_set, of_link_map, of_byte, PropertyData, ClassData, IndexData, SchemaData, RecordData, DirData, out, into, BagNameData, BaseData, ChangeData, create, update, delete, touch, TxData, DefinitionData, new_class, new_property, new_index, EntryData, commit, define}
-use Rattle.ori_spec.specs.Refusing.{RuleData, no_class, ends, temporary_link, version_end, of_kind, mandatory, not_null, readonly, least, greatest}
+use Rattle.ori_spec_data.specs.Base.{KindData, of_boolean, of_integer, of_short, of_long, of_datetime, of_str}
+use Rattle.ori_spec_data.specs.Base.{of_binary, of_embedded, of_embedded_list, of_embedded_map, of_link, of_link_list}
+use Rattle.ori_spec_data.specs.Base.{of_link_set, of_link_map, of_byte, PropertyData, ClassData, IndexData, SchemaData}
+use Rattle.ori_spec_data.specs.Base.{RecordData, DirData, out, into, BagNameData, BaseData, ChangeData, create, update}
+use Rattle.ori_spec_data.specs.Base.{delete, touch, TxData, DefinitionData, new_class, new_property, new_index}
+use Rattle.ori_spec_data.specs.Base.{EntryData, commit, define}
+use Rattle.ori_spec_data.specs.Refusing.{RuleData, no_class, ends, temporary_link, version_end, of_kind, mandatory}
+use Rattle.ori_spec_data.specs.Refusing.{not_null, readonly, least, greatest}
 use Rattle.ori_value.specs.declared.kind.Kind.{Kind}
-use Rattle.ori_value.specs.declared.kind.Kind.TheVariants.{Boolean, Integer, Short, Long, Datetime, Str, Binary, Embedded, EmbeddedList, EmbeddedMap, Link, LinkList, LinkSet, LinkMap, Byte}
+use Rattle.ori_value.specs.declared.kind.Kind.TheVariants.{Boolean, Integer, Short, Long, Datetime, Str, Binary}
+use Rattle.ori_value.specs.declared.kind.Kind.TheVariants.{Embedded, EmbeddedList, EmbeddedMap, Link, LinkList, LinkSet}
+use Rattle.ori_value.specs.declared.kind.Kind.TheVariants.{LinkMap, Byte}
 use Rattle.ori_model.specs.declared.schema.Property.{Property}
 use Rattle.ori_model.specs.declared.schema.Class.{Class}
 use Rattle.ori_model.specs.declared.schema.IndexDef.{IndexDef}
@@ -21,7 +29,8 @@ use Rattle.ori_model.specs.declared.entry.Definition.TheVariants.{NewClass, NewP
 use Rattle.ori_model.specs.declared.entry.Entry.{Entry}
 use Rattle.ori_model.specs.declared.entry.Entry.TheVariants.{Commit, Define}
 use Rattle.ori_model.specs.declared.fault.Rule.{Rule}
-use Rattle.ori_model.specs.declared.fault.Rule.TheVariants.{NoClass, Ends, Temporary, VersionEnd, OfKind, Mandatory, NotNull, Readonly, Min, Max}
+use Rattle.ori_model.specs.declared.fault.Rule.TheVariants.{NoClass, Ends, Temporary, VersionEnd, OfKind, Mandatory}
+use Rattle.ori_model.specs.declared.fault.Rule.TheVariants.{NotNull, Readonly, Min, Max}
 
 abbrev pub kind_of : Kind → KindData
 kind_of Boolean = of_boolean
@@ -41,7 +50,15 @@ kind_of LinkMap = of_link_map
 kind_of Byte = of_byte
 
 abbrev pub property_of : Property → PropertyData
-property_of p = record { name = p.name; kind = kind_of p.kind; mandatory = p.mandatory; notnull = p.notnull; readonly = p.readonly; least = p.min; greatest = p.max }
+property_of p = record {
+  name = p.name;
+  kind = kind_of p.kind;
+  mandatory = p.mandatory;
+  notnull = p.notnull;
+  readonly = p.readonly;
+  least = p.min;
+  greatest = p.max;
+}
 
 -- a number that isn't negative as a natural one, and 0 for one that is
 abbrev pub natural : ℤ → ℕ
@@ -49,7 +66,12 @@ natural (pos n) = n
 natural (negsuc n) = 0
 
 abbrev pub class_of : Class → ClassData
-class_of c = record { name = c.name; parent = c.parent; cluster = natural c.cluster; properties = map property_of c.properties }
+class_of c = record {
+  name = c.name;
+  parent = c.parent;
+  cluster = natural c.cluster;
+  properties = map property_of c.properties;
+}
 
 abbrev pub index_of : IndexDef → IndexData
 index_of i = record { name = i.name; class = i.class; properties = i.properties; unique = i.unique }
@@ -68,7 +90,12 @@ abbrev pub bag_name_of : BagName → BagNameData
 bag_name_of b = record { vertex = b.vertex; dir = dir_of b.dir; class = b.class }
 
 abbrev pub base_of : Base → BaseData
-base_of b = record { schema = schema_of b.schema; stored = map record_of b.stored; next = b.next; grown = map bag_name_of b.grown }
+base_of b = record {
+  schema = schema_of b.schema;
+  stored = map record_of b.stored;
+  next = b.next;
+  grown = map bag_name_of b.grown;
+}
 
 abbrev pub change_of : Change → ChangeData
 change_of (Create temp class fields) = create temp class fields

@@ -1,10 +1,15 @@
 -- What a commit answers, as plain data.
 use Rattle.std.specs.Prelude.{Result, Ok, Err}
-use Rattle.ori_spec.specs.Refusing.{conflict, breaks, record_too_large, key_too_long, duplicate, cluster_full, tx_too_large}
-use Rattle.ori_spec.specs.Keeping.{DecisionData, accepted, halted_at, feed_full, refused, pages_full, log_full, fault, device, busy, damaged, no_memory}
+use Rattle.ori_spec_data.specs.Refusing.{conflict, breaks, record_too_large, key_too_long, duplicate, cluster_full}
+use Rattle.ori_spec_data.specs.Refusing.{tx_too_large}
+use Rattle.ori_spec_data.specs.Keeping.{DecisionData, accepted, halted_at, feed_full, refused, pages_full, log_full}
+use Rattle.ori_spec_data.specs.Keeping.{fault, device, busy, damaged, no_memory}
 use Rattle.ori_model.specs.declared.entry.Done.{Done}
 use Rattle.ori_model.specs.declared.fault.CommitFault.{CommitFault}
-use Rattle.ori_model.specs.declared.fault.CommitFault.TheVariants.{Halted, FeedFull, Conflict, Schema, RecordTooLarge, KeyTooLong, Duplicate, ClusterFull, TxTooLarge, PagesFull, LogFull, Fault, Device, Busy, Damaged, NoMemory}
+use Rattle.ori_model.specs.declared.fault.CommitFault.TheVariants.{Halted, FeedFull, Conflict, Schema, RecordTooLarge}
+use Rattle.ori_model.specs.declared.fault.CommitFault.TheVariants.{KeyTooLong, Duplicate, ClusterFull, TxTooLarge}
+use Rattle.ori_model.specs.declared.fault.CommitFault.TheVariants.{PagesFull, LogFull, Fault, Device, Busy, Damaged}
+use Rattle.ori_model.specs.declared.fault.CommitFault.TheVariants.{NoMemory}
 use Rattle.ori_model.specs.Data.{rule_of}
 
 abbrev pub decision_of : Result Done CommitFault → DecisionData

@@ -3,3 +3,4 @@ pub mod Reading
 pub mod Decisions
 pub mod Refusals
 pub mod Replies
+pub mod Standing

@@ -2,9 +2,9 @@
 use Rattle.std.specs.Prelude.{◌≡◌, ℕ, Option, Some, None, option_map, Result, Ok, Err, IfSome}
 use Rattle.ori_bytes.specs.declared.rid.Rid.{Rid}
 use Rattle.ori_bytes.specs.declared.causes.Causes.{Causes}
-use Rattle.ori_spec.specs.Statement.{record_at}
-use Rattle.ori_spec.specs.Views.{ViewData}
-use Rattle.ori_spec.specs.Keeping.{raised_count, with_device, with_busy, with_damaged, IsTurn}
+use Rattle.ori_spec_data.specs.Records.{record_at}
+use Rattle.ori_spec_data.specs.Views.{ViewData}
+use Rattle.ori_spec_data.specs.Keeping.{raised_count, with_device, with_busy, with_damaged, IsTurn}
 use Rattle.ori_model.specs.declared.record.Stored.{Stored}
 use Rattle.ori_model.specs.declared.fault.ReadFault.{ReadFault}
 use Rattle.ori_model.specs.declared.fault.ReadFault.TheVariants.{Device, Busy, Damaged, NoMemory}

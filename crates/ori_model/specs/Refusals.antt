@@ -1,9 +1,13 @@
 -- The refusal of a statement that says why a base refuses its transaction.
-use Rattle.ori_spec.specs.Refusing.{RuleData, no_class, ends, temporary_link, version_end, of_kind, mandatory, not_null, readonly, least, greatest, CommitRefusalData, conflict, breaks, record_too_large, key_too_long, duplicate, cluster_full, tx_too_large}
+use Rattle.ori_spec_data.specs.Refusing.{RuleData, no_class, ends, temporary_link, version_end, of_kind, mandatory}
+use Rattle.ori_spec_data.specs.Refusing.{not_null, readonly, least, greatest, CommitRefusalData, conflict, breaks}
+use Rattle.ori_spec_data.specs.Refusing.{record_too_large, key_too_long, duplicate, cluster_full, tx_too_large}
 use Rattle.ori_model.specs.declared.fault.Rule.{Rule}
-use Rattle.ori_model.specs.declared.fault.Rule.TheVariants.{NoClass, Ends, Temporary, VersionEnd, OfKind, Mandatory, NotNull, Readonly, Min, Max}
+use Rattle.ori_model.specs.declared.fault.Rule.TheVariants.{NoClass, Ends, Temporary, VersionEnd, OfKind, Mandatory}
+use Rattle.ori_model.specs.declared.fault.Rule.TheVariants.{NotNull, Readonly, Min, Max}
 use Rattle.ori_model.specs.declared.reply.Refusal.{Refusal}
-use Rattle.ori_model.specs.declared.reply.Refusal.TheVariants.{Conflict, Schema, RecordTooLarge, KeyTooLong, Duplicate, ClusterFull, TxTooLarge}
+use Rattle.ori_model.specs.declared.reply.Refusal.TheVariants.{Conflict, Schema, RecordTooLarge, KeyTooLong, Duplicate}
+use Rattle.ori_model.specs.declared.reply.Refusal.TheVariants.{ClusterFull, TxTooLarge}
 
 abbrev pub rule_for : RuleData → Rule
 rule_for no_class = NoClass

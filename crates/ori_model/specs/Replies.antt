@@ -1,14 +1,27 @@
 -- The plain data that the code's refusals and replies stand for.
-use Rattle.std.specs.Prelude.{ℕ, List, map, Result, Ok, Err, codes}
-use Rattle.ori_spec.specs.Value.{Fields}
-use Rattle.ori_spec.specs.Refusing.{conflict, breaks, record_too_large, key_too_long, duplicate, cluster_full, tx_too_large}
-use Rattle.ori_spec.specs.Reply.{RefusalData, bad_char, open_string, long_number, syntax, too_deep, in_transaction, no_transaction, not_in_transaction, no_class_named, no_record, reserved, use_create_edge, use_delete_vertex, use_delete_edge, wrong_kind, overflow, exists, no_property_named, not_indexable, not_number, schema_full, by_base, pages_full, feed_full, halted, fault, device, damaged, no_memory, busy, unbuilt, log_full, ReplyData}
+use Rattle.std.specs.Prelude.{ℕ, map, Result, Ok, Err}
+use Rattle.ori_spec_data.specs.Value.{Fields}
+use Rattle.ori_spec_data.specs.Refusing.{conflict, breaks, record_too_large, key_too_long, duplicate, cluster_full}
+use Rattle.ori_spec_data.specs.Refusing.{tx_too_large}
+use Rattle.ori_spec_data.specs.Replies.{RefusalData, bad_char, open_string, long_number, syntax, too_deep}
+use Rattle.ori_spec_data.specs.Replies.{in_transaction, no_transaction, not_in_transaction, no_class_named, no_record}
+use Rattle.ori_spec_data.specs.Replies.{reserved, use_create_edge, use_delete_vertex, use_delete_edge, wrong_kind}
+use Rattle.ori_spec_data.specs.Replies.{overflow, exists, no_property_named, not_indexable, not_number, schema_full}
+use Rattle.ori_spec_data.specs.Replies.{by_base, pages_full, feed_full, halted, fault, device, damaged, no_memory, busy}
+use Rattle.ori_spec_data.specs.Replies.{unbuilt, log_full, ReplyData}
 use Rattle.ori_model.specs.declared.fault.CommitFault.{CommitFault}
 use Rattle.ori_model.specs.declared.fault.CommitFault.TheVariants as commits
 use Rattle.ori_model.specs.declared.fault.ReadFault.{ReadFault}
 use Rattle.ori_model.specs.declared.fault.ReadFault.TheVariants as reads
 use Rattle.ori_model.specs.declared.reply.Refusal.{Refusal}
-use Rattle.ori_model.specs.declared.reply.Refusal.TheVariants.{BadChar, OpenString, LongNumber, Syntax, TooDeep, InTransaction, NoTransaction, NotInTransaction, NoClass, NoRecord, Reserved, UseCreateEdge, UseDeleteVertex, UseDeleteEdge, WrongKind, Overflow, Exists, NoProperty, NotIndexable, NotNumber, SchemaFull, Conflict, Schema, RecordTooLarge, KeyTooLong, Duplicate, ClusterFull, TxTooLarge, PagesFull, FeedFull, Halted, Fault, Device, Damaged, NoMemory, Busy, Unbuilt, LogFull}
+use Rattle.ori_model.specs.declared.reply.Refusal.TheVariants.{BadChar, OpenString, LongNumber, Syntax, TooDeep}
+use Rattle.ori_model.specs.declared.reply.Refusal.TheVariants.{InTransaction, NoTransaction, NotInTransaction, NoClass}
+use Rattle.ori_model.specs.declared.reply.Refusal.TheVariants.{NoRecord, Reserved, UseCreateEdge, UseDeleteVertex}
+use Rattle.ori_model.specs.declared.reply.Refusal.TheVariants.{UseDeleteEdge, WrongKind, Overflow, Exists, NoProperty}
+use Rattle.ori_model.specs.declared.reply.Refusal.TheVariants.{NotIndexable, NotNumber, SchemaFull, Conflict, Schema}
+use Rattle.ori_model.specs.declared.reply.Refusal.TheVariants.{RecordTooLarge, KeyTooLong, Duplicate, ClusterFull}
+use Rattle.ori_model.specs.declared.reply.Refusal.TheVariants.{TxTooLarge, PagesFull, FeedFull, Halted, Fault, Device}
+use Rattle.ori_model.specs.declared.reply.Refusal.TheVariants.{Damaged, NoMemory, Busy, Unbuilt, LogFull}
 use Rattle.ori_model.specs.declared.reply.Row.{Row}
 use Rattle.ori_model.specs.declared.reply.Reply.{Reply}
 use Rattle.ori_model.specs.Data.{rule_of}

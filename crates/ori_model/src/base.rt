@@ -5,7 +5,7 @@ use crate::{BagNameList, Schema, StoredList};
 use ori_bytes::{NoMemory, NumberList};
 
 /// A whole database as data.
-#[derive(Debug, Drop)]
+#[derive(Drop)]
 pub struct Base {
     pub schema: Schema,
     /// The records in row order: by cluster, then by position.

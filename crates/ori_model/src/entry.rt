@@ -1,13 +1,11 @@
 // The history: commits and schema changes.
-ghost use Rattle.std.specs.Prelude.{◌≡◌, ◌++◌, [], ◌∷◌, IfOk, OnOk, OnErr};
+ghost use Rattle.std.specs.Prelude.{◌≡◌, IfOk};
 
 use crate::{IndexDef, Property, Tx};
-use ori_bytes::{NoMemory, RidList, Text};
-use std::alloc::Global;
-use std::marker::Model;
+use ori_bytes::{Copied, ListOf, NoMemory, RidList, Text};
 
 /// A schema change, after OrientDB's manual ("CREATE CLASS", "CREATE PROPERTY", "CREATE INDEX").
-#[derive(Debug, Drop)]
+#[derive(Drop)]
 pub enum Definition {
     /// A class, with the class that it extends.
     NewClass { name: Text, parent: Option<Text> },
@@ -45,7 +43,7 @@ impl Definition {
 }
 
 /// An entry of the history. Sessions count from 1 to `MAX_SESSIONS`.
-#[derive(Debug, Drop)]
+#[derive(Drop)]
 pub enum Entry {
     /// A session's commit, with the identifiers that its new records have got, in order of creation.
     Commit { session: u8, tx: Tx, fresh: RidList },
@@ -75,151 +73,20 @@ impl Entry {
     }
 }
 
-/// A list of entries, which a contract sees as that list.
-#[derive(Debug, Drop)]
-pub struct EntryList {
-    entries: Vec<Entry>,
-}
-
-impl Model for EntryList {
-    ghost use Rattle.std.specs.Prelude.{List};
-    ghost use Rattle.ori_model.specs.declared.entry.Entry.{Entry};
-    ghost use Rattle.std.specs.Coded.{coded_list};
-    ghost use Rattle.ori_model.specs.contracts.entry.Entry as entry;
-
-    ghost Value = { List Entry };
-
-    ghost coded = { coded_list entry.the_row.coded };
-
-    ghost view = { λ l. l.entries.items };
-}
-
-impl EntryList {
-    /// The empty list; takes no memory.
-    pub fn new(alloc: Global) -> Self
-        ensures { result ≡ [] }
-    {
-        EntryList {
-            entries: Vec::new(alloc),
-        }
-    }
-
-    /// The list of a `Vec`'s items; takes no memory.
-    pub fn from_vec(entries: Vec<Entry>) -> Self
-        ensures { result ≡ entries.items }
-    {
-        EntryList { entries }
-    }
-
-    /// The items as a `Vec`; takes no memory.
-    pub fn into_vec(self) -> Vec<Entry>
-        ensures { result.items ≡ self }
-    {
-        self.entries
-    }
-
-    /// The entries.
-    pub fn as_slice(&self) -> &[Entry]
-        ensures { result.now ≡ self.now }
-    {
-        self.entries.as_slice()
-    }
-
-    /// Adds one at the end. Unchanged where memory is wanting.
-    pub fn push(&mut self, entry: Entry) -> Result<(), NoMemory>
-        ensures ok { OnOk result (self.new ≡ self.old ++ entry ∷ []) }
-        ensures err { OnErr result (self.new ≡ self.old) }
-    {
-        self.entries.push(entry)?;
-        Ok(())
-    }
-
-    /// A copy, or want of memory.
-    pub fn copy(&self) -> Result<Self, NoMemory>
-        ensures { IfOk result (λ l. l ≡ self.now) }
-    {
-        let mut entries = Vec::with_capacity(*self.entries.allocator(), self.entries.len())?;
-        for entry in &self.entries {
-            entries.push(entry.copy()?)?;
-        }
-        Ok(EntryList { entries })
+impl Copied for Entry {
+    fn copied(&self) -> Result<Self, NoMemory> {
+        self.copy()
     }
 }
 
-/// A list of entries, each with a place in the history. A contract sees it as the list of those pairs.
-#[derive(Debug, Drop)]
-pub struct PlacedList {
-    pairs: Vec<(u64, Entry)>,
-}
+/// A list of entries.
+pub type EntryList = ListOf<Entry>;
 
-impl Model for PlacedList {
-    ghost use Rattle.std.specs.Prelude.{List};
-    ghost use Rattle.std.specs.Prelude.{ℕ};
-    ghost use Rattle.ori_model.specs.declared.entry.Entry.{Entry};
-    ghost use Rattle.std.specs.Coded.{coded_list, coded×, coded_ℕ};
-    ghost use Rattle.ori_model.specs.contracts.entry.Entry as entry;
-
-    ghost Value = { List (ℕ × Entry) };
-
-    ghost coded = { coded_list (coded× coded_ℕ entry.the_row.coded) };
-
-    ghost view = { λ l. l.pairs.items };
-}
-
-impl PlacedList {
-    /// The empty list; takes no memory.
-    pub fn new(alloc: Global) -> Self
-        ensures { result ≡ [] }
-    {
-        PlacedList {
-            pairs: Vec::new(alloc),
-        }
-    }
-
-    /// The list of a `Vec`'s items; takes no memory.
-    pub fn from_vec(pairs: Vec<(u64, Entry)>) -> Self
-        ensures { result ≡ pairs.items }
-    {
-        PlacedList { pairs }
-    }
-
-    /// The items as a `Vec`; takes no memory.
-    pub fn into_vec(self) -> Vec<(u64, Entry)>
-        ensures { result.items ≡ self }
-    {
-        self.pairs
-    }
-
-    /// The pairs.
-    pub fn as_slice(&self) -> &[(u64, Entry)]
-        ensures { result.now ≡ self.now }
-    {
-        self.pairs.as_slice()
-    }
-
-    /// Adds one at the end. Unchanged where memory is wanting.
-    pub fn push(&mut self, place: u64, entry: Entry) -> Result<(), NoMemory>
-        ensures ok { OnOk result (self.new ≡ self.old ++ (place, entry) ∷ []) }
-        ensures err { OnErr result (self.new ≡ self.old) }
-    {
-        self.pairs.push((place, entry))?;
-        Ok(())
-    }
-
-    /// A copy, or want of memory.
-    pub fn copy(&self) -> Result<Self, NoMemory>
-        ensures { IfOk result (λ l. l ≡ self.now) }
-    {
-        let mut pairs = Vec::with_capacity(*self.pairs.allocator(), self.pairs.len())?;
-        for (place, entry) in &self.pairs {
-            pairs.push((*place, entry.copy()?))?;
-        }
-        Ok(PlacedList { pairs })
-    }
-}
+/// A list of entries, each with a place in the history.
+pub type PlacedList = ListOf<(u64, Entry)>;
 
 /// A commit that was accepted.
-#[derive(Debug, Drop)]
+#[derive(Drop)]
 pub struct Done {
     /// Its entry's place among those since the opening, from 0.
     pub place: u64,

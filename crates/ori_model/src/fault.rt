@@ -5,10 +5,10 @@ ghost use Rattle.ori_model.specs.declared.fault.CommitFault.TheVariants.{NoMemor
 ghost use Rattle.ori_model.specs.declared.fault.DefineFault.TheVariants.{NoMemory as NoMemoryToDefine};
 
 use ori_bytes::{NoMemory, Rid, Text};
-use thiserror::Error;
 
-/// The rules that a change may break, in the order in which they are looked for. After OrientDB's manual ("CREATE PROPERTY").
-#[derive(Clone, Copy, Debug, PartialEq, Eq)]
+/// The rules that a change may break, in the order in which they are looked for. After OrientDB's manual ("CREATE
+/// PROPERTY").
+#[derive(Clone, Copy, PartialEq, Eq)]
 pub enum Rule {
     /// The class of a new record isn't there.
     NoClass,
@@ -33,217 +33,180 @@ pub enum Rule {
 }
 
 /// Why a read failed. Nothing has changed but the count of causes.
-#[derive(Clone, Copy, Debug, PartialEq, Eq, Error)]
+#[derive(Clone, Copy, Debug, PartialEq, Eq)]
 pub enum ReadFault {
     /// A read of the device failed.
-    #[error("the device failed")]
     Device,
     /// Turn 0 to 7, of a partition, or 8, of the device, was held by another handle.
-    #[error("turn {turn} is held")]
     Busy { turn: u8 },
     /// The page isn't of the kind and owner that is needed, or its fields leave their range.
-    #[error("page {page} is damaged")]
     Damaged { page: u32 },
     /// There is no memory for the record's copy.
-    #[error("out of memory")]
     NoMemory,
 }
 
-/// Why a commit was refused: up to `PagesFull` in the order in which they are looked for. Nothing has changed but the count of
-/// causes, except after `Fault`.
-#[derive(Debug, Drop, Error)]
+/// Why a commit was refused: up to `PagesFull` in the order in which they are looked for. Nothing has changed but the
+/// count of causes, except after `Fault`.
+#[derive(Drop)]
 pub enum CommitFault {
     /// A write of the log failed earlier in this opening, when the volume had counted so many faults.
-    #[error("commits ended at fault {at_fault}")]
     Halted {
         at_fault: u64,
     },
-    /// There are `MAX_FEED_ENTRIES` entries since the opening, or with this entry they have more than `MAX_FEED_BYTES` bytes:
-    /// `entries` of them without it, and `bytes` with it.
-    #[error("the feed is full")]
+    /// There are `MAX_FEED_ENTRIES` entries since the opening, or with this entry they have more than `MAX_FEED_BYTES`
+    /// bytes: `entries` of them without it, and `bytes` with it.
     FeedFull {
         entries: u64,
         bytes: u64,
     },
     /// The first changed record that is missing, or whose version isn't the one that the transaction has seen. After
     /// OrientDB's manual ("Concurrency").
-    #[error("a record has changed")]
     Conflict {
         rid: Rid,
         expected: u32,
         found: Option<u32>,
     },
     /// The first rule that a change breaks, with its property, or `-` where it has none.
-    #[error("a change breaks a rule of the schema")]
     Schema {
         rid: Rid,
         property: Text,
         rule: Rule,
     },
     /// The first written record of more than `MAX_RECORD_BYTES` bytes.
-    #[error("a record has {bytes} bytes")]
     RecordTooLarge {
         rid: Rid,
         bytes: u64,
     },
     /// The first key, by index in order of creation, then by change, of more bytes than a key may have.
-    #[error("a key has {bytes} bytes")]
     KeyTooLong {
         index: Text,
         rid: Rid,
         bytes: u64,
     },
-    /// Two records would have one key of a unique index: the least such key of the first such index, and the first two records
-    /// in row order.
-    #[error("two records have one key")]
+    /// Two records would have one key of a unique index: the least such key of the first such index, and the first two
+    /// records in row order.
     Duplicate {
         index: Text,
         first: Rid,
         second: Rid,
     },
     /// The least cluster that has fewer than the wanted positions left, of its `MAX_POSITIONS`.
-    #[error("cluster {cluster} is full")]
     ClusterFull {
         cluster: i16,
     },
     /// It weighs more than `MAX_WEIGHT` pages.
-    #[error("the transaction weighs {weight}")]
     TxTooLarge {
         weight: u64,
     },
     /// The pages in use and the transaction's weight pass `MAX_PAGES`.
-    #[error("{in_use} pages are in use")]
     PagesFull {
         in_use: u32,
         weight: u64,
     },
     /// The record needs more bytes of the log than it has room for.
-    #[error("the log needs {need} bytes and has room for {room}")]
     LogFull {
         need: u64,
         room: u64,
     },
     /// A write or sync failed: commits may have ended, and the entry may be in doubt.
-    #[error("a write failed")]
     Fault,
     /// A read of the device failed.
-    #[error("the device failed")]
     Device,
     /// Turn 0 to 7, of a partition, or 8, of the device, was held by another handle.
-    #[error("turn {turn} is held")]
     Busy {
         turn: u8,
     },
     /// The page isn't of the kind and owner that is needed, or its fields leave their range.
-    #[error("page {page} is damaged")]
     Damaged {
         page: u32,
     },
     /// There is no memory for what the commit makes.
-    #[error("out of memory")]
     NoMemory,
 }
 
-/// Why a schema change was refused: up to `PagesFull` in the order in which they are looked for. Nothing has changed but the
-/// count of causes, except after `Fault`.
-#[derive(Debug, Drop, Error)]
+/// Why a schema change was refused: up to `PagesFull` in the order in which they are looked for. Nothing has changed
+/// but the count of causes, except after `Fault`.
+#[derive(Drop)]
 pub enum DefineFault {
     /// A write of the log failed earlier in this opening, when the volume had counted so many faults.
-    #[error("commits ended at fault {at_fault}")]
     Halted {
         at_fault: u64,
     },
-    /// There are `MAX_FEED_ENTRIES` entries since the opening, or with this entry they have more than `MAX_FEED_BYTES` bytes.
-    #[error("the feed is full")]
+    /// There are `MAX_FEED_ENTRIES` entries since the opening, or with this entry they have more than `MAX_FEED_BYTES`
+    /// bytes.
     FeedFull {
         entries: u64,
         bytes: u64,
     },
     /// The named class or the class to extend isn't there.
-    #[error("a class is not there")]
     NoClass {
         name: Text,
     },
     /// The class or the index is there, or the property is one of the class, of an ancestor or of a descendant.
-    #[error("a name is taken")]
     Exists {
         name: Text,
     },
     /// The property's name is one that only edges and bags have: `out`, `in`, or one that begins with `out_` or `in_`.
-    #[error("a name is reserved")]
     Reserved {
         name: Text,
     },
     /// A property of the index is none of the class or an ancestor.
-    #[error("a property is not there")]
     NoProperty {
         name: Text,
     },
     /// The kind of a property of the index isn't a boolean, a whole number, a time, a string, bytes or a link.
-    #[error("a property can't be indexed")]
     NotIndexable {
         name: Text,
     },
     /// The property has a least or a greatest number, and its kind isn't a whole number or a time.
-    #[error("a property has bounds and no numbers")]
     NotNumber {
         name: Text,
     },
     /// There are as many `classes`, `properties` or `indexes` as there may be.
-    #[error("the schema is full")]
     SchemaFull {
         what: Text,
     },
     /// The first record in row order that breaks the new property.
-    #[error("a record breaks a rule of the schema")]
     Schema {
         rid: Rid,
         property: Text,
         rule: Rule,
     },
     /// The first record in row order whose key has more bytes than a key may have.
-    #[error("a key has {bytes} bytes")]
     KeyTooLong {
         index: Text,
         rid: Rid,
         bytes: u64,
     },
-    /// Two records would have one key of the new unique index: the least such key, and the first two records in row order.
-    #[error("two records have one key")]
+    /// Two records would have one key of the new unique index: the least such key, and the first two records in row
+    /// order.
     Duplicate {
         index: Text,
         first: Rid,
         second: Rid,
     },
     /// It weighs more than `MAX_WEIGHT` pages.
-    #[error("the schema change weighs {weight}")]
     TxTooLarge {
         weight: u64,
     },
     /// The pages in use and the schema change's weight pass `MAX_PAGES`.
-    #[error("{in_use} pages are in use")]
     PagesFull {
         in_use: u32,
         weight: u64,
     },
     /// A write or sync failed: commits may have ended, and the entry may be in doubt.
-    #[error("a write failed")]
     Fault,
     /// A read of the device failed.
-    #[error("the device failed")]
     Device,
     /// Turn 0 to 7, of a partition, or 8, of the device, was held by another handle.
-    #[error("turn {turn} is held")]
     Busy {
         turn: u8,
     },
     /// The page isn't of the kind and owner that is needed, or its fields leave their range.
-    #[error("page {page} is damaged")]
     Damaged {
         page: u32,
     },
     /// There is no memory for what the schema change makes.
-    #[error("out of memory")]
     NoMemory,
 }
 

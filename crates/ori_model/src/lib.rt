@@ -1,8 +1,7 @@
-//! The model of a database as the code holds it: bases, records, changes, transactions, entries and replies; and the traits
-//! through which statements read a database and commit to it.
+//! The model of a database as the code holds it: bases, records, changes, transactions, entries and replies; and the
+//! traits through which statements read a database and commit to it.
 //!
-//! Contracts see each as plain data (specs/Data). A type whose name ends in `List` is a small type over a `Vec`, which a
-//! contract sees as the list of what it holds.
+//! Contracts see each as plain data (specs/Data), and a list as the list of what it holds.
 #![tactic(auto)]
 
 mod bags;
@@ -30,6 +29,3 @@ pub use record::{Stored, StoredList};
 pub use reply::{Refusal, Reply, RidPairList, Row, RowList, Told};
 pub use schema::{Class, ClassList, IndexDef, IndexDefList, Property, PropertyList, Schema};
 pub use sizes::{change_bytes, entry_bytes, record_bytes};
-
-#[cfg(test)]
-mod tests;

@@ -3,7 +3,7 @@ use crate::{ChangeList, Entry, EntryList, PlacedList};
 use ori_bytes::{NumberList, RidList};
 
 /// What a statement wants to commit.
-#[derive(Debug, Drop)]
+#[derive(Drop)]
 pub struct Plan {
     pub changes: ChangeList,
     /// The records that its rows show.
@@ -13,7 +13,7 @@ pub struct Plan {
 }
 
 /// What a run made of the database.
-#[derive(Debug, Drop)]
+#[derive(Drop)]
 pub struct Report {
     /// Whether the volume was opened and held the initial database at entry.
     pub was_empty: bool,

@@ -2,11 +2,12 @@
 ghost use Rattle.std.specs.Prelude.{◌≡◌, ℕ, Option, IfOk, IfErr, IfSome};
 ghost use Rattle.ori_bytes.specs.declared.causes.Causes.{Causes};
 ghost use Rattle.ori_volume.specs.Story.{Story};
-ghost use Rattle.ori_spec.specs.Apply.{HasOwnFields};
-ghost use Rattle.ori_spec.specs.Views.{BelowData, ViewData};
-ghost use Rattle.ori_spec.specs.Keeping.{StateData};
+ghost use Rattle.ori_spec_data.specs.Apply.{HasOwnFields};
+ghost use Rattle.ori_spec_data.specs.Views.{BelowData, ViewData};
+ghost use Rattle.ori_spec_data.specs.Keeping.{StateData};
 ghost use Rattle.ori_model.specs.Data.{schema_of};
 ghost use Rattle.ori_model.specs.Reading.{read_counted, fetch_counted, MayFail, IsFetched};
+ghost use Rattle.ori_model.specs.Standing.{IsUnchanged};
 
 use crate::{ReadFault, Schema, Stored};
 use ori_bytes::{Causes, Rid};
@@ -40,17 +41,13 @@ pub trait Reader {
     fn schema(&self) -> &Schema
         ensures { IfSome (view self.now) (λ shown. schema_of result.now ≡ shown.schema) };
 
-    /// The record with an identifier, or `None` where there is none. Its fields are such as a record may have. After an `Err` nothing has changed but the count of its
-    /// cause: a later fetch may succeed.
+    /// The record with an identifier, or `None` where there is none. Its fields are such as a record may have. After an `Err`
+    /// nothing has changed but the count of its cause: a later fetch may succeed.
     fn fetch(&mut self, rid: Rid) -> Result<Option<Stored>, ReadFault>
         ensures found { IfOk result (IsFetched (view self.old) rid) }
         ensures own { IfOk result (λ found. IfSome found (λ stored. (stored.rid ≡ rid) × HasOwnFields stored.fields)) }
         ensures fault { IfErr result (MayFail (view self.old)) }
-        ensures view { view self.new ≡ view self.old }
-        ensures state { state self.new ≡ state self.old }
-        ensures lent { lent self.new ≡ lent self.old }
-        ensures below { below self.new ≡ below self.old }
-        ensures sound { (first : Option Story) → sound self.old first → sound self.new first }
+        ensures same { IsUnchanged view state sound lent below self.old self.new }
         ensures fetched { fetched self.new ≡ fetch_counted result (fetched self.old) }
         ensures causes { causes self.new ≡ read_counted result (causes self.old) };
 

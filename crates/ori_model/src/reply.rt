@@ -1,14 +1,12 @@
 // Replies to statements.
-ghost use Rattle.std.specs.Prelude.{◌≡◌, ◌++◌, [], ◌∷◌, IfOk, OnOk, OnErr};
+ghost use Rattle.std.specs.Prelude.{◌≡◌, IfOk};
 
 use crate::Rule;
-use ori_bytes::{NoMemory, Rid, Text};
+use ori_bytes::{Copied, ListOf, NoMemory, Rid, Text};
 use ori_value::FieldList;
-use std::alloc::Global;
-use std::marker::Model;
 
 /// A row by its columns.
-#[derive(Debug, Drop)]
+#[derive(Drop)]
 pub struct Row {
     pub columns: FieldList,
 }
@@ -24,147 +22,24 @@ impl Row {
     }
 }
 
-/// A list of rows, which a contract sees as that list.
-#[derive(Debug, Drop)]
-pub struct RowList {
-    rows: Vec<Row>,
-}
-
-impl Model for RowList {
-    ghost use Rattle.std.specs.Prelude.{List};
-    ghost use Rattle.ori_model.specs.declared.reply.Row.{Row};
-    ghost use Rattle.std.specs.Coded.{coded_list};
-    ghost use Rattle.ori_model.specs.contracts.reply.Row as row;
-
-    ghost Value = { List Row };
-
-    ghost coded = { coded_list row.the_row.coded };
-
-    ghost view = { λ l. l.rows.items };
-}
-
-impl RowList {
-    /// The empty list; takes no memory.
-    pub fn new(alloc: Global) -> Self
-        ensures { result ≡ [] }
-    {
-        RowList {
-            rows: Vec::new(alloc),
-        }
-    }
-
-    /// The list of a `Vec`'s items; takes no memory.
-    pub fn from_vec(rows: Vec<Row>) -> Self
-        ensures { result ≡ rows.items }
-    {
-        RowList { rows }
-    }
-
-    /// The items as a `Vec`; takes no memory.
-    pub fn into_vec(self) -> Vec<Row>
-        ensures { result.items ≡ self }
-    {
-        self.rows
-    }
-
-    /// The rows.
-    pub fn as_slice(&self) -> &[Row]
-        ensures { result.now ≡ self.now }
-    {
-        self.rows.as_slice()
-    }
-
-    /// Adds one at the end. Unchanged where memory is wanting.
-    pub fn push(&mut self, row: Row) -> Result<(), NoMemory>
-        ensures ok { OnOk result (self.new ≡ self.old ++ row ∷ []) }
-        ensures err { OnErr result (self.new ≡ self.old) }
-    {
-        self.rows.push(row)?;
-        Ok(())
-    }
-
-    /// A copy, or want of memory.
-    pub fn copy(&self) -> Result<Self, NoMemory>
-        ensures { IfOk result (λ l. l ≡ self.now) }
-    {
-        let mut rows = Vec::with_capacity(*self.rows.allocator(), self.rows.len())?;
-        for row in &self.rows {
-            rows.push(row.copy()?)?;
-        }
-        Ok(RowList { rows })
+impl Copied for Row {
+    fn copied(&self) -> Result<Self, NoMemory> {
+        self.copy()
     }
 }
 
-/// A list of pairs of identifiers: a temporary one, and the one that it became. A contract sees it as that list.
-#[derive(Debug, Drop)]
-pub struct RidPairList {
-    pairs: Vec<(Rid, Rid)>,
-}
+/// A list of rows.
+pub type RowList = ListOf<Row>;
 
-impl Model for RidPairList {
-    ghost use Rattle.std.specs.Prelude.{List};
-    ghost use Rattle.ori_bytes.specs.declared.rid.Rid.{Rid};
+/// A list of pairs of identifiers: a temporary one, and the one that it became.
+pub type RidPairList = ListOf<(Rid, Rid)>;
 
-    ghost Value = { List (Rid × Rid) };
-
-    ghost view = { λ l. l.pairs.items };
-}
-
-impl RidPairList {
-    /// The empty list; takes no memory.
-    pub fn new(alloc: Global) -> Self
-        ensures { result ≡ [] }
-    {
-        RidPairList {
-            pairs: Vec::new(alloc),
-        }
-    }
-
-    /// The list of a `Vec`'s items; takes no memory.
-    pub fn from_vec(pairs: Vec<(Rid, Rid)>) -> Self
-        ensures { result ≡ pairs.items }
-    {
-        RidPairList { pairs }
-    }
-
-    /// The items as a `Vec`; takes no memory.
-    pub fn into_vec(self) -> Vec<(Rid, Rid)>
-        ensures { result.items ≡ self }
-    {
-        self.pairs
-    }
-
-    /// The pairs.
-    pub fn as_slice(&self) -> &[(Rid, Rid)]
-        ensures { result.now ≡ self.now }
-    {
-        self.pairs.as_slice()
-    }
-
-    /// Adds one at the end. Unchanged where memory is wanting.
-    pub fn push(&mut self, temp: Rid, real: Rid) -> Result<(), NoMemory>
-        ensures ok { OnOk result (self.new ≡ self.old ++ (temp, real) ∷ []) }
-        ensures err { OnErr result (self.new ≡ self.old) }
-    {
-        self.pairs.push((temp, real))?;
-        Ok(())
-    }
-
-    /// A copy, or want of memory.
-    pub fn copy(&self) -> Result<Self, NoMemory>
-        ensures { IfOk result (λ l. l ≡ self.now) }
-    {
-        let alloc = *self.pairs.allocator();
-        Ok(RidPairList {
-            pairs: Vec::from_slice(alloc, self.pairs.as_slice())?,
-        })
-    }
-}
-
-/// Why a statement was refused: one variant for each text that a refused statement prints, whose first word is its name.
-#[derive(Debug, Drop)]
+/// Why a statement was refused: one variant for each text that a refused statement prints, whose first word is its
+/// name.
+#[derive(Drop)]
 pub enum Refusal {
-    /// A character that begins no token, or a wrong escape. `at` is a byte of the statement's text, from 0, as in each of these.
+    /// A character that begins no token, or a wrong escape. `at` is a byte of the statement's text, from 0, as in each
+    /// of these.
     BadChar {
         at: usize,
     },
@@ -312,7 +187,7 @@ pub enum Refusal {
 pub type Told = Result<u64, Refusal>;
 
 /// The reply to a statement.
-#[derive(Debug, Drop)]
+#[derive(Drop)]
 pub struct Reply {
     pub rows: RowList,
     /// For a commit the temporary identifiers beside those that they became, in order of creation.

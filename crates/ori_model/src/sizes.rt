@@ -1,8 +1,8 @@
 // How many bytes records and entries count.
 ghost use Rattle.std.specs.Prelude.{◌≡◌, ◌+◌, ◌≤◌, length, map, IfOk};
-ghost use Rattle.ori_spec.specs.Sizes.{varint_size, count_size, text_size, link_size, rids_size, links_count, links_size, trees_count, fields_count, value_size, items_size, entries_size, fields_size, record_size};
-ghost use Rattle.ori_spec.specs.Weighing.{changes_bytes};
-ghost use Rattle.ori_spec.specs.Weighing as weighing;
+ghost use Rattle.ori_spec_data.specs.Sizes.{varint_size, count_size, text_size, link_size, rids_size, links_count, links_size, trees_count, fields_count, value_size, items_size, entries_size, fields_size, record_size};
+ghost use Rattle.ori_spec_data.specs.Weighing.{changes_bytes};
+ghost use Rattle.ori_spec_data.specs.Weighing as weighing;
 ghost use Rattle.ori_value.specs.View.{tree_of};
 ghost use Rattle.ori_model.specs.Data.{change_of, entry_of};
 
@@ -163,7 +163,8 @@ fn sized_bytes(class_len: usize, fields: &FieldList) -> Result<u64, NoMemory>
     sum(head, fields_bytes(fields)?)
 }
 
-/// How many bytes a record of this class with these fields takes. There is no memory for one of more bytes than a `u64` counts.
+/// How many bytes a record of this class with these fields takes. There is no memory for one of more bytes than a `u64`
+/// counts.
 pub fn record_bytes(class: &Text, fields: &FieldList) -> Result<u64, NoMemory>
     ensures { IfOk result (λ n. n ≡ record_size class.now fields.now) }
 {

@@ -4,7 +4,7 @@
 ghost use Rattle.std.specs.Prelude.{◌≡◌, ◌+◌, ◌≤◌, ◌++◌, ℕ, List, length, take, drop, replicate, slice_index, IfOk};
 ghost use Rattle.std.specs.Int.{w16, w32, from_be_bytes};
 ghost use Rattle.std.specs.Borrow.{sem};
-ghost use Rattle.ori_spec.specs.Stage.{filled};
+ghost use Rattle.ori_page.specs.Pages.{filled};
 ghost use Rattle.ori_page.specs.Lending.{LendsBytes};
 
 use ori_bytes::NoMemory;
@@ -16,7 +16,7 @@ use std::marker::Model;
 const KIND_AT: usize = 4;
 
 /// A page, which a contract sees as the list of its bytes.
-#[derive(Debug, Drop)]
+#[derive(Drop)]
 pub struct Page {
     bytes: Vec<u8>,
 }
@@ -123,6 +123,3 @@ impl Page {
         self.bytes[at..end].copy_from_slice(bytes);
     }
 }
-
-#[cfg(test)]
-mod tests;

@@ -16,7 +16,8 @@ counted_first n h = record { room = omega arith; some = omega arith; small = h; 
 pub counted_more : (size rest n : ℕ) → Counted size rest n → 128 ≤ rest → Counted (size + 1) (rest / 128) n
 counted_more size rest n c h = by (10 - size) (omega (arith, c.room)) c.small c.same
   where
-    by : (left : ℕ) → left + size ≡ 10 → rest < limit left → size + length (groups_of left rest) ≡ 1 + length (groups_of 9 n) → Counted (size + 1) (rest / 128) n
+    by : (left : ℕ) → left + size ≡ 10 → rest < limit left → size + length (groups_of left rest) ≡ 1 + length
+        (groups_of 9 n) → Counted (size + 1) (rest / 128) n
     by zero e small same = absurd (omega arith)
     by (suc left) e small same =
         let next : 10 - (size + 1) ≡ left = omega arith in

@@ -1,13 +1,15 @@
 -- Values of the kinds that are written: what they begin with, and how many bytes they have.
-use Rattle.std.proofs.Common.{◌≡◌, ℕ, ◌+◌, ℤ, pos, true, List, ◌++◌, length, refl, sym, ap, subst, ◌∙◌, append_assoc, arith, length-append}
+use Rattle.std.proofs.Common.{◌≡◌, ℕ, ◌+◌, ℤ, pos, true, List, ◌++◌, length, refl, sym, ap, subst, ◌∙◌, append_assoc}
+use Rattle.std.proofs.Common.{arith, length-append}
 use Rattle.ori_bytes.specs.declared.rid.Rid.{Rid}
 use Rattle.ori_bytes.specs.Varint.{IsVarint}
 use Rattle.ori_bytes.proofs.Front.{varint_bytes-only}
-use Rattle.ori_spec.specs.Value.{Tree, null, boolean, integer, short, long, datetime, str, binary, embedded, embedded_list, embedded_map, link, link_list, link_set, link_map, byte, nesting}
-use Rattle.ori_spec.specs.Apply.{is_proper}
-use Rattle.ori_spec.specs.Sizes.{varint_size, text_size, value_size}
-use Rattle.ori_spec.specs.Spelling.{kind_number, IsCounted, IsValue}
-use Rattle.ori_spec.specs.Statement.{IsSigned}
+use Rattle.ori_spec_data.specs.Value.{Tree, null, boolean, integer, short, long, datetime, str, binary, embedded}
+use Rattle.ori_spec_data.specs.Value.{embedded_list, embedded_map, link, link_list, link_set, link_map, byte, nesting}
+use Rattle.ori_spec_data.specs.Apply.{is_proper}
+use Rattle.ori_spec_data.specs.Sizes.{varint_size, text_size, value_size}
+use Rattle.ori_record.specs.Spelling.{kind_number, IsCounted, IsValue}
+use Rattle.ori_spec_data.specs.Numbers.{IsSigned}
 use Rattle.ori_record.specs.Kinds.{is_written}
 use Rattle.ori_record.specs.Parts.{BeginsNumber, BeginsText, BeginsValue}
 use Rattle.ori_record.proofs.Fronts.{one_number, one_text}
@@ -64,23 +66,38 @@ link_of t (of_link rid e) k = (rid, e)
 
 -- ---- a value at the front
 
-pub integer_number : (bytes : List ℕ) (z : ℤ) (more : List ℕ) → BeginsValue bytes (integer z) more → BeginsNumber bytes z more
+pub integer_number : (bytes : List ℕ) (z : ℤ) (more : List ℕ) → BeginsValue bytes (integer z) more
+    → BeginsNumber bytes z more
 integer_number bytes z more v = record { front = v.front; spelled = v.valued.0; whole = v.whole }
 
 pub long_number : (bytes : List ℕ) (z : ℤ) (more : List ℕ) → BeginsValue bytes (long z) more → BeginsNumber bytes z more
 long_number bytes z more v = record { front = v.front; spelled = v.valued.0; whole = v.whole }
 
-pub number_integer : (bytes : List ℕ) (z : ℤ) (more : List ℕ) → IsSigned 32 z → BeginsNumber bytes z more → BeginsValue bytes (integer z) more
+pub number_integer : (bytes : List ℕ) (z : ℤ) (more : List ℕ) → IsSigned 32 z → BeginsNumber bytes z more
+    → BeginsValue bytes (integer z) more
 number_integer bytes z more h n = record { front = n.front; valued = (n.spelled, h); whole = n.whole }
 
 pub number_long : (bytes : List ℕ) (z : ℤ) (more : List ℕ) → BeginsNumber bytes z more → BeginsValue bytes (long z) more
-number_long bytes z more n = record { front = n.front; valued = (n.spelled, varint_signed n.front z n.spelled); whole = n.whole }
+number_long bytes z more n = record {
+  front = n.front;
+  valued = (n.spelled, varint_signed n.front z n.spelled);
+  whole =
+      n.whole;
+}
 
 pub value_text : (bytes s more : List ℕ) → BeginsValue bytes (str s) more → BeginsText bytes s more
-value_text bytes s more v = record { begins = record { front = v.front; counted = v.valued.0; whole = v.whole }; utf8 = v.valued.1 }
+value_text bytes s more v = record {
+  begins = record { front = v.front; counted = v.valued.0; whole = v.whole };
+  utf8 =
+      v.valued.1;
+}
 
 pub text_value : (bytes s more : List ℕ) → BeginsText bytes s more → BeginsValue bytes (str s) more
-text_value bytes s more b = record { front = b.begins.front; valued = (b.begins.counted, b.utf8); whole = b.begins.whole }
+text_value bytes s more b = record {
+  front = b.begins.front;
+  valued = (b.begins.counted, b.utf8);
+  whole = b.begins.whole;
+}
 
 -- the cluster, and the position behind it
 pub record IsLinkAt (bytes : List ℕ) (rid : Rid) (more : List ℕ) : Type 0 where
@@ -88,31 +105,42 @@ pub record IsLinkAt (bytes : List ℕ) (rid : Rid) (more : List ℕ) : Type 0 wh
   pub cluster : BeginsNumber bytes rid.cluster behind
   pub position : BeginsNumber behind rid.position more
 
-pub link_numbers : (bytes : List ℕ) (rid : Rid) (more : List ℕ) → BeginsValue bytes (link rid) more → IsLinkAt bytes rid more
+pub link_numbers : (bytes : List ℕ) (rid : Rid) (more : List ℕ) → BeginsValue bytes (link rid) more
+    → IsLinkAt bytes rid more
 link_numbers bytes rid more v =
     let parts = v.valued in
     record {
       behind = parts.1 ++ more;
-      cluster = record { front = parts.0; spelled = parts.2; whole = v.whole ∙ ap (λ (x : List ℕ). x ++ more) parts.6 ∙ append_assoc parts.0 parts.1 more };
+      cluster = record {
+        front = parts.0;
+        spelled = parts.2;
+        whole = v.whole ∙ ap (λ (x : List ℕ). x ++ more) parts.6
+            ∙ append_assoc parts.0 parts.1 more;
+      };
       position = record { front = parts.1; spelled = parts.3; whole = refl };
     }
 
-pub numbers_link : (bytes : List ℕ) (rid : Rid) (behind more : List ℕ) → BeginsNumber bytes rid.cluster behind → IsSigned 16 rid.cluster → BeginsNumber behind rid.position more → BeginsValue bytes (link rid) more
+pub numbers_link : (bytes : List ℕ) (rid : Rid) (behind more : List ℕ) → BeginsNumber bytes rid.cluster behind
+    → IsSigned 16 rid.cluster → BeginsNumber behind rid.position more → BeginsValue bytes (link rid) more
 numbers_link bytes rid behind more m h n = record {
   front = m.front ++ n.front;
   valued = (m.front, n.front, m.spelled, n.spelled, h, varint_signed n.front rid.position n.spelled, refl);
   whole = m.whole ∙ ap (λ (x : List ℕ). m.front ++ x) n.whole ∙ sym (append_assoc m.front n.front more);
 }
 
-one_link : (bytes : List ℕ) (p : Rid) (a : List ℕ) (q : Rid) (b : List ℕ) → IsLinkAt bytes p a → IsLinkAt bytes q b → (p ≡ q) × (a ≡ b)
+one_link : (bytes : List ℕ) (p : Rid) (a : List ℕ) (q : Rid) (b : List ℕ) → IsLinkAt bytes p a → IsLinkAt bytes q b
+    → (p ≡ q) × (a ≡ b)
 one_link bytes p a q b m n =
     let clusters = one_number bytes p.cluster m.behind q.cluster n.behind m.cluster n.cluster in
-    let positions = one_number n.behind p.position a q.position b (subst (λ (x : List ℕ). BeginsNumber x p.position a) clusters.1 m.position) n.position in
-    let first : p ≡ record { cluster = q.cluster; position = p.position } = ap (λ (x : ℤ). record { cluster = x; position = p.position }) clusters.0 in
+    let positions = one_number n.behind p.position a q.position b
+    (subst (λ (x : List ℕ). BeginsNumber x p.position a) clusters.1 m.position) n.position in
+    let first : p ≡ record { cluster = q.cluster; position = p.position } =
+    ap (λ (x : ℤ). record { cluster = x; position = p.position }) clusters.0 in
     (first ∙ ap (λ (x : ℤ). record { cluster = q.cluster; position = x }) positions.0, positions.1)
 
 -- bytes begin with one value of a kind
-pub one_value : (bytes : List ℕ) (t : Tree) (a : List ℕ) (u : Tree) (b : List ℕ) → kind_number t ≡ kind_number u → BeginsValue bytes t a → BeginsValue bytes u b → (t ≡ u) × (a ≡ b)
+pub one_value : (bytes : List ℕ) (t : Tree) (a : List ℕ) (u : Tree) (b : List ℕ) → kind_number t ≡ kind_number u
+    → BeginsValue bytes t a → BeginsValue bytes u b → (t ≡ u) × (a ≡ b)
 one_value bytes t a u b k v w = by t (form v.front t v.valued) k v
   where
     of : (x : Tree) → u ≡ x → BeginsValue bytes x b
@@ -121,19 +149,23 @@ one_value bytes t a u b k v w = by t (form v.front t v.valued) k v
     by : (t : Tree) → Form t → kind_number t ≡ kind_number u → BeginsValue bytes t a → (t ≡ u) × (a ≡ b)
     by t (of_integer z e) k v =
         let other = integer_of u (form w.front u w.valued) (sym k ∙ ap kind_number e) in
-        let one = one_number bytes z a other.0 b (integer_number bytes z a (subst (λ (y : Tree). BeginsValue bytes y a) e v)) (integer_number bytes other.0 b (of _ other.1)) in
+        let one = one_number bytes z a other.0 b (integer_number bytes z a
+        (subst (λ (y : Tree). BeginsValue bytes y a) e v)) (integer_number bytes other.0 b (of _ other.1)) in
         (e ∙ ap integer one.0 ∙ sym other.1, one.1)
     by t (of_long z e) k v =
         let other = long_of u (form w.front u w.valued) (sym k ∙ ap kind_number e) in
-        let one = one_number bytes z a other.0 b (long_number bytes z a (subst (λ (y : Tree). BeginsValue bytes y a) e v)) (long_number bytes other.0 b (of _ other.1)) in
+        let one = one_number bytes z a other.0 b (long_number bytes z a
+        (subst (λ (y : Tree). BeginsValue bytes y a) e v)) (long_number bytes other.0 b (of _ other.1)) in
         (e ∙ ap long one.0 ∙ sym other.1, one.1)
     by t (of_str s e) k v =
         let other = str_of u (form w.front u w.valued) (sym k ∙ ap kind_number e) in
-        let one = one_text bytes s a other.0 b (value_text bytes s a (subst (λ (y : Tree). BeginsValue bytes y a) e v)) (value_text bytes other.0 b (of _ other.1)) in
+        let one = one_text bytes s a other.0 b (value_text bytes s a (subst (λ (y : Tree). BeginsValue bytes y a) e v))
+        (value_text bytes other.0 b (of _ other.1)) in
         (e ∙ ap str one.0 ∙ sym other.1, one.1)
     by t (of_link rid e) k v =
         let other = link_of u (form w.front u w.valued) (sym k ∙ ap kind_number e) in
-        let one = one_link bytes rid a other.0 b (link_numbers bytes rid a (subst (λ (y : Tree). BeginsValue bytes y a) e v)) (link_numbers bytes other.0 b (of _ other.1)) in
+        let one = one_link bytes rid a other.0 b (link_numbers bytes rid a
+        (subst (λ (y : Tree). BeginsValue bytes y a) e v)) (link_numbers bytes other.0 b (of _ other.1)) in
         (e ∙ ap link one.0 ∙ sym other.1, one.1)
 
 -- ---- what a value's bytes say of it
@@ -142,7 +174,8 @@ pub varint_long : (bytes : List ℕ) (z : ℤ) → IsVarint bytes z → length b
 varint_long bytes z v = ap length (varint_bytes-only bytes z v)
 
 pub counted_long : (bytes s : List ℕ) → IsCounted bytes s → length bytes ≡ text_size s
-counted_long bytes s c = ap length c.2 ∙ length-append c.0 s ∙ ap (λ (n : ℕ). n + length s) (varint_long c.0 (pos (length s)) c.1)
+counted_long bytes s c = ap length c.2 ∙ length-append c.0 s ∙ ap (λ (n : ℕ). n + length s)
+    (varint_long c.0 (pos (length s)) c.1)
 
 pub record Facts (bytes : List ℕ) (t : Tree) : Type 0 where
   pub size : length bytes ≡ value_size t
@@ -164,7 +197,8 @@ value_facts bytes (embedded_list items) h = absurd h
 value_facts bytes (embedded_map fs) h = absurd h
 value_facts bytes (link rid) h =
     let parts : length bytes ≡ varint_size rid.cluster + varint_size rid.position
-    = ap length h.6 ∙ length-append h.0 h.1 ∙ ap (λ (n : ℕ). n + length h.1) (varint_long h.0 rid.cluster h.2) ∙ ap (λ (n : ℕ). varint_size rid.cluster + n) (varint_long h.1 rid.position h.3) in
+    = ap length h.6 ∙ length-append h.0 h.1 ∙ ap (λ (n : ℕ). n + length h.1) (varint_long h.0 rid.cluster h.2)
+    ∙ ap (λ (n : ℕ). varint_size rid.cluster + n) (varint_long h.1 rid.position h.3) in
     record { size = parts; written = refl; flat = refl; proper = refl }
 value_facts bytes (link_list rids) h = absurd h
 value_facts bytes (link_set rids) h = absurd h
@@ -174,7 +208,8 @@ value_facts bytes (byte z) h = absurd h
 -- bytes that spell a value are those that any spelling of it has
 pub counted_same : (a b s : List ℕ) → IsCounted a s → IsCounted b s → a ≡ b
 counted_same a b s c d =
-    c.2 ∙ ap (λ (x : List ℕ). x ++ s) (varint_bytes-only c.0 (pos (length s)) c.1 ∙ sym (varint_bytes-only d.0 (pos (length s)) d.1)) ∙ sym d.2
+    c.2 ∙ ap (λ (x : List ℕ). x ++ s) (varint_bytes-only c.0 (pos (length s)) c.1
+    ∙ sym (varint_bytes-only d.0 (pos (length s)) d.1)) ∙ sym d.2
 
 pub value_same : (a b : List ℕ) (t : Tree) → IsValue a t → IsValue b t → a ≡ b
 value_same a b null h k = absurd h

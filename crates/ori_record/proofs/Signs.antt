@@ -6,7 +6,7 @@ use Rattle.std.specs.Int.RustNames.{FitsSigned}
 use Rattle.std.proofs.lemmas.Bool.{ltb-true}
 use Rattle.std.proofs.lemmas.Int.{ints}
 use Rattle.ori_bytes.specs.Varint.{zigzag_of, IsVarint}
-use Rattle.ori_spec.specs.Statement.{IsSigned}
+use Rattle.ori_spec_data.specs.Numbers.{IsSigned}
 
 pub from_no_minus : (z : ℤ) → lt_z z (pos 0) ≡ false → (n : ℕ) × (z ≡ pos n)
 from_no_minus (pos n) h = (n, refl)

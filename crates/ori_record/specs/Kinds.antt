@@ -1,7 +1,9 @@
 -- The kinds of values that are written so far.
 use Rattle.std.specs.Prelude.{ℕ, ◌+◌, Bool, true, false, not, ◌||◌}
-use Rattle.ori_spec.specs.Value.{Tree, Fields, null, boolean, integer, short, long, datetime, str, binary, embedded, embedded_list, embedded_map, link, link_list, link_set, link_map, byte, no_pairs, pair}
-use Rattle.ori_spec.specs.Sizes.{text_size}
+use Rattle.ori_spec_data.specs.Value.{Tree, Fields, null, boolean, integer, short, long, datetime, str, binary}
+use Rattle.ori_spec_data.specs.Value.{embedded, embedded_list, embedded_map, link, link_list, link_set, link_map, byte}
+use Rattle.ori_spec_data.specs.Value.{no_pairs, pair}
+use Rattle.ori_spec_data.specs.Sizes.{text_size}
 
 abbrev pub is_written : Tree → Bool
 is_written null = false

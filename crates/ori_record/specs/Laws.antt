@@ -1,9 +1,9 @@
 -- What the grammar of records says of whole records.
 use Rattle.std.specs.Prelude.{◌≡◌, ℕ, false, List, length}
-use Rattle.ori_spec.specs.Base.{RecordData}
-use Rattle.ori_spec.specs.Apply.{HasOwnFields}
-use Rattle.ori_spec.specs.Sizes.{record_size}
-use Rattle.ori_spec.specs.Spelling.{Spells}
+use Rattle.ori_spec_data.specs.Base.{RecordData}
+use Rattle.ori_spec_data.specs.Apply.{HasOwnFields}
+use Rattle.ori_spec_data.specs.Sizes.{record_size}
+use Rattle.ori_record.specs.Spelling.{Spells}
 use Rattle.ori_record.specs.Kinds.{has_unwritten}
 
 -- one record has one spelling

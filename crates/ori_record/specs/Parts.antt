@@ -3,8 +3,8 @@ use Rattle.std.specs.Prelude.{◌≡◌, ℕ, ◌^◌, ◌<◌, ◌==◌, ℤ, B
 use Rattle.std.specs.Int.{w32, to_be_bytes}
 use Rattle.std.specs.Str.{IsUtf8}
 use Rattle.ori_bytes.specs.Varint.{IsVarint}
-use Rattle.ori_spec.specs.Value.{Tree, Fields, no_pairs, pair}
-use Rattle.ori_spec.specs.Spelling.{kind_number, IsCounted, IsValue, AreFields, AreNames}
+use Rattle.ori_spec_data.specs.Value.{Tree, Fields, no_pairs, pair}
+use Rattle.ori_record.specs.Spelling.{kind_number, IsCounted, IsValue, AreFields, AreNames}
 
 -- the bytes are those of a number, and these after them
 pub record BeginsNumber (bytes : List ℕ) (z : ℤ) (more : List ℕ) : Type 0 where
@@ -40,9 +40,10 @@ pub record BeginsEntry (entries name : List ℕ) (at kind : ℕ) (entries_left :
   pub named : BeginsText entries name behind
   pub points : BeginsPointer behind at kind entries_left
 
--- The entries begin with that of a field whose value stands at this place, and the values with its value. What is left of both
--- comes last.
-pub record BeginsField (at : ℕ) (entries values name : List ℕ) (t : Tree) (entries_left values_left : List ℕ) : Type 0 where
+-- The entries begin with that of a field whose value stands at this place, and the values with its value. What is left
+-- of both comes last.
+pub record BeginsField (at : ℕ) (entries values name : List ℕ) (t : Tree) (entries_left values_left : List ℕ)
+    : Type 0 where
   pub entry : BeginsEntry entries name at (kind_number t) entries_left
   pub valued : BeginsValue values t values_left
 

@@ -1,5 +1,5 @@
 -- The plain tree of a value that is seen in bytes.
-use Rattle.ori_spec.specs.Value.{Tree, integer, long, str, link}
+use Rattle.ori_spec_data.specs.Value.{Tree, integer, long, str, link}
 use Rattle.ori_record.specs.declared.values.Seen.{Seen}
 use Rattle.ori_record.specs.declared.values.Seen.TheVariants.{Integer, Long, Str, Link}
 

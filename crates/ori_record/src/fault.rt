@@ -2,16 +2,13 @@
 ghost use Rattle.std.specs.Prelude.{◌≡◌};
 
 use ori_bytes::NoMemory;
-use thiserror::Error;
 
 /// Why bytes can't be read as a record.
-#[derive(Clone, Copy, Debug, PartialEq, Eq, Error)]
+#[derive(Clone, Copy)]
 pub enum RecordFault {
     /// They spell no record.
-    #[error("not a record")]
     NotRecord,
     /// No memory was to be had.
-    #[error("out of memory")]
     NoMemory,
 }
 

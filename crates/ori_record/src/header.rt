@@ -2,10 +2,10 @@
 ghost use Rattle.std.specs.Prelude.{◌≡◌, ◌&&◌, not, ◌<◌, ◌+◌, ◌^◌, ◌++◌, ◌∷◌, ℕ, List, [], false, length, IfOk, IsTrue, IsErrOf, OnOk, MatchBool, MatchOption};
 ghost use Rattle.std.specs.Cmp.Lexicographic.{slice_cmp};
 ghost use Rattle.std.specs.Ordering.{is_lt, nat_cmp};
-ghost use Rattle.ori_spec.specs.Value.{Tree, Fields, pair, no_pairs};
-ghost use Rattle.ori_spec.specs.Sizes.{fields_size};
-ghost use Rattle.ori_spec.specs.Apply.{is_bag_name};
-ghost use Rattle.ori_spec.specs.Spelling.{AreFields};
+ghost use Rattle.ori_spec_data.specs.Value.{Tree, Fields, pair, no_pairs};
+ghost use Rattle.ori_spec_data.specs.Sizes.{fields_size};
+ghost use Rattle.ori_spec_data.specs.Apply.{is_bag_name};
+ghost use Rattle.ori_record.specs.Spelling.{AreFields};
 ghost use Rattle.ori_value.specs.View.{tree_of, fields_of};
 ghost use Rattle.ori_record.specs.Kinds.{has_unwritten, is_written, entries_size};
 ghost use Rattle.ori_record.specs.Parts.{has_entry, AreNamed, AreTexts, BeginsEntry, BeginsField, BeginsPointer, IsHeader};
@@ -31,6 +31,7 @@ pub(crate) struct Written {
 }
 
 // How many bytes the entries take.
+#[tactic(auto, using(crate::proofs::Putting::item_fits))]
 pub(crate) fn entries_size(pairs: &[(Text, Value)]) -> usize
     requires { fields_size (fields_of pairs.now) < 2 ^ 32 }
     ensures { result ≡ entries_size (fields_of pairs.now) }
@@ -42,8 +43,9 @@ pub(crate) fn entries_size(pairs: &[(Text, Value)]) -> usize
     size
 }
 
-// The entries and the values of fields, of which the first value stands at this place. `None` exactly where a value is of a kind
-// that isn't written yet.
+// The entries and the values of fields, of which the first value stands at this place. `None` exactly where a value is
+// of a kind that isn't written yet.
+#[tactic(auto, using(crate::proofs::Putting::place_fits, crate::proofs::Putting::unwritten_at))]
 pub(crate) fn put_fields(
     alloc: Global,
     at: usize,
@@ -68,7 +70,8 @@ pub(crate) fn put_fields(
 
 // Adds a field's entry.
 fn put_entry(entries: &mut Blob, name: &str, at: u32, kind: u8) -> Result<(), NoMemory>
-    ensures { IfOk result (λ _. (entry : List ℕ) × BeginsEntry entry name.now at kind [] × (entries.new ≡ entries.old ++ entry)) }
+    ensures { IfOk result (λ _. (entry : List ℕ)
+        × BeginsEntry entry name.now at kind [] × (entries.new ≡ entries.old ++ entry)) }
 {
     put_text(entries, name)?;
     entries.extend_from_slice(&at.to_be_bytes())?;
@@ -127,7 +130,8 @@ fn entry_at(entries: &[u8]) -> Option<Entry<'_>>
 // The field at the front, whose value stands at this place.
 fn field_at<'a>(at: usize, entries: &'a [u8], values: &'a [u8]) -> Option<Field<'a>>
     ensures { MatchOption result
-        ((name : List ℕ) (t : Tree) (entries_left values_left : List ℕ) → BeginsField at entries.now values.now name t entries_left values_left → ⊥)
+        ((name : List ℕ) (t : Tree) (entries_left values_left : List ℕ)
+        → BeginsField at entries.now values.now name t entries_left values_left → ⊥)
         (λ f. BeginsField at entries.now values.now f.name.now (seen_tree f.value) f.entries.now f.values.now) }
 {
     let entry = entry_at(entries)?;
@@ -154,11 +158,13 @@ fn has_entry(header: &[u8]) -> bool
 }
 
 // The entries, and the values behind the byte 0 that ends them.
+#[tactic(auto, using(crate::proofs::Sofar::ahead_more, crate::proofs::Fronts::entry_shorter))]
 pub(crate) fn split_header(header: &[u8]) -> Option<(&[u8], &[u8])>
     ensures { MatchOption result
         ((entries values : List ℕ) → IsHeader header.now entries values → ⊥)
         (λ found. (header.now ≡ found.0.now ++ 0 ∷ found.1.now)
-        × ((entries values : List ℕ) → IsHeader header.now entries values → (entries ≡ found.0.now) × (values ≡ found.1.now))) }
+        × ((entries values : List ℕ) → IsHeader header.now entries values
+        → (entries ≡ found.0.now) × (values ≡ found.1.now))) }
 {
     let mut left = header;
     while has_entry(left) {
@@ -193,7 +199,8 @@ fn push_field(
     name: &str,
     value: Seen,
 ) -> Result<(), NoMemory>
-    ensures { OnOk result ((v : Value) × (fields.new.items ≡ fields.old.items ++ (name.now, v) ∷ []) × (tree_of v ≡ seen_tree value.entry)) }
+    ensures { OnOk result ((v : Value)
+        × (fields.new.items ≡ fields.old.items ++ (name.now, v) ∷ []) × (tree_of v ≡ seen_tree value.entry)) }
 {
     let name = Text::from_str(alloc, name)?;
     let value = owned(alloc, value)?;
@@ -202,6 +209,7 @@ fn push_field(
 }
 
 // The fields of these entries and values, of which the first value stands at this place.
+#[tactic(auto, using(crate::proofs::Fronts::entry_shorter))]
 pub(crate) fn read_fields(
     alloc: Global,
     at: usize,

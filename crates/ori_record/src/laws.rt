@@ -7,8 +7,8 @@ pub fn one_spelling()
     ensures reading { OneRecord }
 {}
 
-/// The fields of a record that bytes spell have names and values as a record may have them, of the kinds that are written, and
-/// the bytes are as many as the record's size says.
+/// The fields of a record that bytes spell have names and values as a record may have them, of the kinds that are
+/// written, and the bytes are as many as the record's size says.
 pub fn spelled_record()
     ensures own { SpelledAreOwn }
     ensures written { SpelledAreWritten }

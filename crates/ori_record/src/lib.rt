@@ -1,6 +1,8 @@
-//! Records as bytes, written and read: the version, a byte 0, the class, an entry for each field, a byte 0, and the values.
+//! Records as bytes, written and read: the version, a byte 0, the class, an entry for each field, a byte 0, and the
+//! values.
 //!
-//! Contracts say by `Spells` which bytes spell a record. Text, INTEGER, LONG and LINK are written; the other kinds aren't yet.
+//! Contracts say by `Spells` which bytes spell a record. Text, INTEGER, LONG and LINK are written; the other kinds
+//! aren't yet.
 #![tactic(auto)]
 
 mod fault;
@@ -14,6 +16,3 @@ mod values;
 pub use fault::RecordFault;
 pub use laws::{one_spelling, spelled_record};
 pub use record::{read, version_of, write};
-
-#[cfg(test)]
-mod tests;

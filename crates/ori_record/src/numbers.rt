@@ -1,7 +1,7 @@
 // Numbers at the front of bytes, and how many bytes they take.
 ghost use Rattle.std.specs.Prelude.{◌≡◌, ◌<◌, ◌^◌, ℕ, ℤ, List, MatchOption};
-ghost use Rattle.ori_spec.specs.Sizes.{count_size};
-ghost use Rattle.ori_spec.specs.Statement.{IsSigned};
+ghost use Rattle.ori_spec_data.specs.Sizes.{count_size};
+ghost use Rattle.ori_spec_data.specs.Numbers.{IsSigned};
 ghost use Rattle.ori_record.specs.Parts.{BeginsNumber};
 
 use ori_bytes::Cursor;

@@ -1,10 +1,10 @@
 // Whole records as bytes.
 ghost use Rattle.std.specs.Prelude.{◌≡◌, ◌≤◌, ◌↔◌, ℕ, List, length, Some, IfOk, IsErrOf, IsNone, IsTrue, MatchOption};
 ghost use Rattle.ori_bytes.specs.declared.limits.TheConstants.{MAX_RECORD_BYTES};
-ghost use Rattle.ori_spec.specs.Base.{RecordData};
-ghost use Rattle.ori_spec.specs.Apply.{HasOwnFields};
-ghost use Rattle.ori_spec.specs.Sizes.{record_size};
-ghost use Rattle.ori_spec.specs.Spelling.{Spells};
+ghost use Rattle.ori_spec_data.specs.Base.{RecordData};
+ghost use Rattle.ori_spec_data.specs.Apply.{HasOwnFields};
+ghost use Rattle.ori_spec_data.specs.Sizes.{record_size};
+ghost use Rattle.ori_record.specs.Spelling.{Spells};
 ghost use Rattle.ori_model.specs.Data.{record_of};
 ghost use Rattle.ori_record.specs.Kinds.{has_unwritten};
 ghost use Rattle.ori_record.specs.Parts.{BeginsRecord, BeginsVersion};
@@ -21,12 +21,14 @@ use std::alloc::Global;
 const VERSION_BYTES: usize = 4;
 
 /// The bytes of a record. `None` exactly where a value is of a kind that isn't written yet.
+#[tactic(auto, using(crate::proofs::Putting::entries_within))]
 pub fn write(alloc: Global, stored: &Stored) -> Result<Option<Blob>, NoMemory>
     requires own { HasOwnFields stored.now.fields }
     requires small { record_size stored.now.class stored.now.fields ≤ MAX_RECORD_BYTES }
     ensures spelled { IfOk result (λ o. MatchOption o
         (IsTrue (has_unwritten stored.now.fields))
-        (λ bytes. Spells bytes (record_of stored.now) × (length bytes ≡ record_size stored.now.class stored.now.fields))) }
+        (λ bytes. Spells bytes (record_of stored.now)
+        × (length bytes ≡ record_size stored.now.class stored.now.fields))) }
     ensures none { IfOk result (λ o. IsNone o ↔ IsTrue (has_unwritten stored.now.fields)) }
 {
     let class = stored.class.as_str();
@@ -69,8 +71,8 @@ fn record_head(bytes: &[u8]) -> Option<(u32, &str, &[u8])>
     Some((version, class, header))
 }
 
-/// The version of the record that bytes spell. Reads no more than the front, and answers whatever stands there where they spell
-/// none.
+/// The version of the record that bytes spell. Reads no more than the front, and answers whatever stands there where
+/// they spell none.
 pub fn version_of(bytes: &[u8]) -> Option<u32>
     ensures { (r : RecordData) → Spells bytes.now r → result ≡ Some r.version }
 {

@@ -1,7 +1,7 @@
 // Texts behind their lengths.
 ghost use Rattle.std.specs.Prelude.{◌≡◌, ◌≤◌, ◌<◌, ◌^◌, ◌++◌, ℕ, List, length, IfOk, MatchOption};
-ghost use Rattle.ori_spec.specs.Sizes.{text_size};
-ghost use Rattle.ori_spec.specs.Spelling.{IsCounted};
+ghost use Rattle.ori_spec_data.specs.Sizes.{text_size};
+ghost use Rattle.ori_record.specs.Spelling.{IsCounted};
 ghost use Rattle.ori_record.specs.Parts.{BeginsCounted, BeginsText};
 
 use crate::numbers::{count_size, number_at};

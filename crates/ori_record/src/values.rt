@@ -1,8 +1,8 @@
 // Values by their kind.
 ghost use Rattle.std.specs.Prelude.{◌≡◌, ◌++◌, ℕ, ℤ, List, false, IfOk, MatchOption};
 ghost use Rattle.ori_bytes.specs.declared.rid.Rid.{Rid};
-ghost use Rattle.ori_spec.specs.Value.{Tree, integer, long, link};
-ghost use Rattle.ori_spec.specs.Spelling.{kind_number, IsValue};
+ghost use Rattle.ori_spec_data.specs.Value.{Tree, integer, long, link};
+ghost use Rattle.ori_record.specs.Spelling.{kind_number, IsValue};
 ghost use Rattle.ori_value.specs.View.{tree_of};
 ghost use Rattle.ori_record.specs.Kinds.{is_written};
 ghost use Rattle.ori_record.specs.Parts.{BeginsValue};
@@ -38,7 +38,8 @@ pub(crate) enum Seen<'a> {
 pub(crate) fn put_value(out: &mut Blob, value: &Value) -> Result<Option<u8>, NoMemory>
     ensures { IfOk result (λ o. MatchOption o
         (is_written (tree_of value.now) ≡ false)
-        (λ kind. (bytes : List ℕ) × (kind ≡ kind_number (tree_of value.now)) × IsValue bytes (tree_of value.now) × (out.new ≡ out.old ++ bytes))) }
+        (λ kind. (bytes : List ℕ) × (kind ≡ kind_number (tree_of value.now))
+        × IsValue bytes (tree_of value.now) × (out.new ≡ out.old ++ bytes))) }
 {
     match value {
         Value::Integer(number) => {

@@ -4,3 +4,5 @@ pub mod Made
 pub mod Sorted
 pub mod Changed
 pub mod Ready
+mod WorkedRecord
+mod WorkedPages

@@ -1,8 +1,9 @@
 -- The images of the pages that a transaction changes.
-use Rattle.std.specs.Prelude.{◌≡◌, ℕ, ◌+◌, ◌<◌, ◌≤◌, Bool, true, false, List, [], ◌∷◌, ◌++◌, length, get_or, Option, Some, None}
-use Rattle.ori_spec.specs.Base.{RecordData}
-use Rattle.ori_spec.specs.Log.{ImageData, last_image, pages_named}
-use Rattle.ori_spec.specs.Stage.{head_page, IsPageOf}
+use Rattle.std.specs.Prelude.{◌≡◌, ℕ, ◌+◌, ◌<◌, ◌≤◌, Bool, true, false, List, [], ◌∷◌, ◌++◌, length, get_or, Option}
+use Rattle.std.specs.Prelude.{Some, None}
+use Rattle.ori_spec_data.specs.Base.{RecordData}
+use Rattle.ori_log.specs.Log.{ImageData, last_image, pages_named}
+use Rattle.ori_rows.specs.Stage.{head_page, IsPageOf}
 
 -- the image of a position's page with this record or none
 pub record IsImageOf (x : ℕ × Option RecordData) (image : ImageData) : Type 0 where
@@ -29,7 +30,8 @@ AreAllImages false count xs images = AreImagesOf xs images
 abbrev pub AddsImages : List ImageData → List ImageData → List (ℕ × Option RecordData) → Type 0
 AddsImages old new xs = (images : List ImageData) × (new ≡ old ++ images) × AreImagesOf xs images
 
--- The images of pages by which the pages of these rows become those of new ones: each row that changes, and page 0 where there
+-- The images of pages by which the pages of these rows become those of new ones: each row that changes, and page 0
+-- where there
 -- are more.
 pub record Changes (rows new : List (Option RecordData)) (images : List ImageData) : Type 0 where
   pub row : (q : ℕ) (content : List ℕ) → last_image (q + 1) images ≡ Some content → IsPageOf content (get_or new q None)

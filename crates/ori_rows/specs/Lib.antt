@@ -1,3 +1,4 @@
 pub mod Rows
 pub mod Outcomes
 pub mod Images
+pub mod Stage

@@ -1,11 +1,12 @@
 -- What a transaction makes of the positions that it changes.
-use Rattle.std.specs.Prelude.{◌≡◌, ℕ, ◌+◌, ◌<◌, ◌≤◌, nat_lt, if◌then◌else◌, List, [], ◌∷◌, ◌++◌, length, get_or, set, Option, Some, None, option_map, ⊤}
+use Rattle.std.specs.Prelude.{◌≡◌, ℕ, ◌+◌, ◌≤◌, nat_lt, if◌then◌else◌, List, [], ◌∷◌, ◌++◌, length, get_or, set, Option}
+use Rattle.std.specs.Prelude.{Some, None, option_map, ⊤}
 use Rattle.ori_bytes.specs.declared.rid.Rid.{Rid}
 use Rattle.ori_bytes.specs.declared.limits.TheConstants.{MAX_RECORD_BYTES}
-use Rattle.ori_spec.specs.Value.{Fields}
-use Rattle.ori_spec.specs.Base.{ClassData, RecordData, ChangeData, create, update, delete, touch, initial_base}
-use Rattle.ori_spec.specs.Apply.{rid_at, relinked_fields, cluster_of, HasOwnFields}
-use Rattle.ori_spec.specs.Sizes.{record_size}
+use Rattle.ori_spec_data.specs.Value.{Fields}
+use Rattle.ori_spec_data.specs.Base.{RecordData, ChangeData, create, update, delete, touch, initial_base}
+use Rattle.ori_spec_data.specs.Apply.{rid_at, relinked_fields, cluster_of, HasOwnFields}
+use Rattle.ori_spec_data.specs.Sizes.{record_size}
 use Rattle.ori_model.specs.Data.{natural}
 
 -- the position of an identifier
@@ -24,7 +25,8 @@ touched r = record r { version = r.version + 1 }
 
 -- a new record at a position
 abbrev pub created : List (Rid × Rid) → ℕ → List ℕ → Fields → RecordData
-created ps place class fields = record { rid = rid_at 1 place; version = 1; class = class; fields = relinked_fields ps fields }
+created ps place class fields =
+    record { rid = rid_at 1 place; version = 1; class = class; fields = relinked_fields ps fields }
 
 -- the record that a change finds
 abbrev pub before : List (Option RecordData) → ChangeData → Option RecordData
@@ -36,7 +38,8 @@ before rows (touch rid version) = row_at rows rid
 -- the position that a change is of, and the record that it leaves there, where the next new record has this position
 abbrev pub outcome : List (Rid × Rid) → List (Option RecordData) → ℕ → ChangeData → ℕ × Option RecordData
 outcome ps rows next (create temp class fields) = (next, Some (created ps next class fields))
-outcome ps rows next (update rid version fields) = (place_in rid, option_map (updated (relinked_fields ps fields)) (row_at rows rid))
+outcome ps rows next (update rid version fields) =
+    (place_in rid, option_map (updated (relinked_fields ps fields)) (row_at rows rid))
 outcome ps rows next (delete rid version) = (place_in rid, None)
 outcome ps rows next (touch rid version) = (place_in rid, option_map touched (row_at rows rid))
 
@@ -82,7 +85,7 @@ RiseFrom low (x ∷ xs) = (low ≤ x.0) × RiseFrom (x.0 + 1) xs
 -- each new record is of cluster 1
 abbrev pub AreOfFirst : List ChangeData → Type 0
 AreOfFirst [] = ⊤
-AreOfFirst (create temp class fields ∷ cs) = (cluster_of initial_base.schema.classes class ≡ 1) × AreOfFirst cs
+AreOfFirst (create temp class fields ∷ cs) = (cluster_of initial_base.schema.classes class ≡ Some 1) × AreOfFirst cs
 AreOfFirst (update rid version fields ∷ cs) = AreOfFirst cs
 AreOfFirst (delete rid version ∷ cs) = AreOfFirst cs
 AreOfFirst (touch rid version ∷ cs) = AreOfFirst cs

@@ -1,7 +1,7 @@
 -- The records of cluster 1 by their positions, and the base that they are of.
 use Rattle.std.specs.Prelude.{◌≡◌, ℕ, ◌+◌, List, [], ◌∷◌, length, Option, Some, None, ⊤}
-use Rattle.ori_spec.specs.Base.{RecordData, BaseData, initial_base}
-use Rattle.ori_spec.specs.Apply.{rid_at}
+use Rattle.ori_spec_data.specs.Base.{RecordData, BaseData, initial_base}
+use Rattle.ori_spec_data.specs.Apply.{rid_at}
 
 -- the records of the positions that have one, in row order
 abbrev pub records_of : List (Option RecordData) → List RecordData
@@ -17,4 +17,10 @@ AreAt p (Some r ∷ rows) = (r.rid ≡ rid_at 1 p) × AreAt (p + 1) rows
 
 -- The base with these positions given: the schema is the initial one, and cluster 2 has given no position.
 abbrev pub base_with : List (Option RecordData) → BaseData
-base_with rows = record { schema = initial_base.schema; stored = records_of rows; next = length rows ∷ 0 ∷ []; grown = [] }
+base_with rows = record {
+  schema = initial_base.schema;
+  stored = records_of rows;
+  next = length rows ∷ 0
+      ∷ [];
+  grown = [];
+}

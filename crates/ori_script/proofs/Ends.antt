@@ -1,38 +1,37 @@
 -- How a run goes on after a line, and what stands where it ends.
-use Rattle.std.specs.Prelude.{Any, IsSome}
-use Rattle.std.proofs.Common.{◌≡◌, ◌⊎◌, ℕ, zero, suc, ◌+◌, ◌<◌, Bool, true, false, List, [], ◌∷◌, ◌++◌, length, get_or, replicate, Option, Some, None, option_map, refl, sym, ap, ◌∙◌, append_assoc, inl, inr, arith, subst, IsTrue}
+use Rattle.std.specs.Prelude.{Any, unwrap_or}
+use Rattle.std.proofs.Common.{◌≡◌, ◌⊎◌, ℕ, zero, suc, ◌+◌, Bool, true, false, List, [], ◌∷◌, ◌++◌, length}
+use Rattle.std.proofs.Common.{replicate, Option, Some, None, refl, sym, ap, ap₂, ◌∙◌, append_assoc, inl, inr, arith}
+use Rattle.std.proofs.Common.{subst, IsTrue}
 use Rattle.std.proofs.lemmas.List.{append-nil}
+use Rattle.ori_bytes.specs.declared.limits.TheConstants.{MAX_SESSIONS}
 use Rattle.ori_volume.specs.Disk.{Files}
 use Rattle.ori_volume.specs.Streams.{Gave}
 use Rattle.ori_volume.proofs.Pieces.{took_nothing, gave_nothing, gave_more}
-use Rattle.ori_spec.specs.Base.{BaseData, TxData, EntryData}
-use Rattle.ori_spec.specs.Line.{LineData, statement, tries, step, StopData, at_end, at_bad_line, at_limit, Splits, Gives, Reads, IsSaid}
-use Rattle.ori_spec.specs.Reply.{AnswerData, answer_text, answers_text, tells_fault}
-use Rattle.ori_spec.specs.Run.{RunData, run_start}
+use Rattle.ori_spec_data.specs.Base.{BaseData, EntryData}
+use Rattle.ori_spec_data.specs.Histories.{IsLegalHistory}
+use Rattle.ori_spec_data.specs.Soundness.{IsSoundBase}
+use Rattle.ori_spec_texts.specs.Line.{LineData, statement, tries, step, StopData, at_end, at_bad_line, at_limit, Splits}
+use Rattle.ori_spec_texts.specs.Line.{Gives, Reads, IsSaid}
+use Rattle.ori_spec_texts.specs.Reply.{AnswerData, answer_text, answers_text, tells_fault}
+use Rattle.ori_spec_crash.specs.Crash.{doubts}
+use Rattle.ori_spec_runs.specs.Answer.{closed}
+use Rattle.ori_spec_runs.specs.Run.{run_start}
+use Rattle.ori_spec_runs.proofs.Legal.{run_legal}
 use Rattle.ori_text.specs.declared.line.Line.{Line}
 use Rattle.ori_text.specs.declared.line.LineFault.{LineFault}
 use Rattle.ori_text.specs.declared.line.LineFault.TheVariants as faults
-use Rattle.ori_script.specs.declared.run.Turn.{Turn}
-use Rattle.ori_script.specs.declared.run.Turn.TheVariants.{Answered, Ended}
 use Rattle.ori_text.specs.Lines.{Reading, joined, AreWhole, HasLast}
-use Rattle.ori_text.specs.LineReading.{Moves, HoldsPart, IsLine, IsEndOfInput, IsSourceFault, IsFault, line_of}
-use Rattle.ori_bytes.specs.declared.limits.TheConstants.{MAX_SESSIONS}
-use Rattle.ori_model.specs.declared.entry.Entry.{Entry}
-use Rattle.ori_model.specs.Data.{entry_of, entries_of}
-use Rattle.ori_spec.specs.Histories.{IsLegalHistory}
-use Rattle.ori_spec.specs.Keeping.{OpeningData}
-use Rattle.ori_engine.specs.declared.kept.Kept.{Kept}
-use Rattle.ori_engine.specs.States.{state_of}
-use Rattle.ori_spec.specs.Soundness.{IsSoundBase}
-use Rattle.ori_engine.specs.Crash.{doubts}
-use Rattle.ori_engine.specs.Openings.{Finds, IsStarted, IsFresh}
-use Rattle.ori_script.specs.Keeping.{KeptData, Keeps, IsOfSession, IsStepped, StaysHalted}
-use Rattle.ori_script.specs.Script.{Ends, RunsTo, RanTo, IsRun, GoesOn}
-use Rattle.ori_script.specs.Turns.{IsAnsweredTo, IsTurned, fault_status, history_in}
+use Rattle.ori_text.specs.LineReading.{Moves, HoldsPart, IsLine, IsEndOfInput, IsSourceFault, IsFault, IsAtEnd, line_of}
 use Rattle.ori_text.proofs.Splitting.{joined-append, AreWhole-append, parts_of}
 use Rattle.ori_text.proofs.Reading.{no_long}
-use Rattle.ori_script.proofs.Legal.{run_legal}
-use Rattle.ori_script.proofs.Runs.{Run-then, answers_text-append, Moved, moved}
+use Rattle.ori_engine.specs.Openings.{Finds, IsStarted, IsFresh}
+use Rattle.ori_script.specs.declared.run.Turn.{Turn}
+use Rattle.ori_script.specs.declared.run.Turn.TheVariants.{Answered, Ended}
+use Rattle.ori_script.specs.Keeping.{KeptData, Keeps, TellsHalted, IsOfSession, IsStepped}
+use Rattle.ori_script.specs.Script.{Ends, left_of, RunsTo, RanTo, HasEnded, GoesOn}
+use Rattle.ori_script.specs.Turns.{IsAnsweredTo, IsTurned, fault_status}
+use Rattle.ori_script.proofs.Runs.{Run-then, answers_text-append, only, Moved, moved}
 
 -- ---- a line that was said is of a session
 
@@ -41,7 +40,8 @@ said_session line end (statement session text) p = (omega (arith, p.says.0.0), p
 said_session line end (tries session count text) p = (omega (arith, p.says.0.0), p.says.0.1)
 said_session line end (step s) p = tt
 
-pub line_session : (at : ℕ) (lines : List (List ℕ)) (line : LineData) → Reads at lines (line ∷ []) at_end → IsOfSession line
+pub line_session : (at : ℕ) (lines : List (List ℕ)) (line : LineData) → Reads at lines (line ∷ []) at_end
+    → IsOfSession line
 line_session at [] line p = absurd (cc (p.0))
 line_session at (first ∷ lines) line p =
     elim p [
@@ -68,12 +68,15 @@ record GivenBy (input : List ℕ) (lines : List (List ℕ)) (reading : Reading) 
   given : Gives ended input (lines ++ unread)
   only : IsTrue ended → IsTrue reading.ended
 
-whole_last : (l0 l2 : Option (List ℕ)) (reading : Reading) (said : List LineData) (stop : StopData) (m : Moved l0 l2 reading said stop) (h : HasLast reading.ended m.lines reading.held) → m.input ≡ joined h.front ++ h.last
+whole_last : (l0 l2 : Option (List ℕ)) (reading : Reading) (said : List LineData) (stop : StopData)
+    (m : Moved l0 l2 reading said stop) (h : HasLast reading.ended m.lines reading.held)
+    → m.input ≡ joined h.front ++ h.last
 whole_last l0 l2 reading said stop m h =
     m.parts ∙ ap (λ (t : List ℕ). joined m.lines ++ t) h.nothing_held ∙ append-nil (joined m.lines) ∙ ap joined h.parts
     ∙ joined-append h.front (h.last ∷ []) ∙ ap (λ (t : List ℕ). joined h.front ++ t) (append-nil h.last)
 
-given_behind : (l0 l2 : Option (List ℕ)) (reading : Reading) (said : List LineData) (stop : StopData) (m : Moved l0 l2 reading said stop) → AreWhole m.lines → GivenBy m.input m.lines reading
+given_behind : (l0 l2 : Option (List ℕ)) (reading : Reading) (said : List LineData) (stop : StopData)
+    (m : Moved l0 l2 reading said stop) → AreWhole m.lines → GivenBy m.input m.lines reading
 given_behind l0 l2 reading said stop m w =
     let p = parts_of reading.held in
     record {
@@ -84,7 +87,8 @@ given_behind l0 l2 reading said stop m w =
           m.lines ++ p.lines,
           p.rest,
           record {
-            whole = m.parts ∙ ap (λ (t : List ℕ). joined m.lines ++ t) p.splits.whole ∙ sym (append_assoc (joined m.lines) (joined p.lines) p.rest)
+            whole = m.parts ∙ ap (λ (t : List ℕ). joined m.lines ++ t) p.splits.whole
+                ∙ sym (append_assoc (joined m.lines) (joined p.lines) p.rest)
                 ∙ ap (λ (t : List ℕ). t ++ p.rest) (sym (joined-append m.lines p.lines));
             each = AreWhole-append m.lines p.lines w p.splits.each;
             partial = p.splits.partial;
@@ -95,16 +99,36 @@ given_behind l0 l2 reading said stop m w =
       only = λ e. absurd (cc (e));
     }
 
-given_last : (l0 l2 : Option (List ℕ)) (reading : Reading) (said : List LineData) (stop : StopData) (m : Moved l0 l2 reading said stop) (h : HasLast reading.ended m.lines reading.held) → GivenBy m.input m.lines reading
+given_last : (l0 l2 : Option (List ℕ)) (reading : Reading) (said : List LineData) (stop : StopData)
+    (m : Moved l0 l2 reading said stop) (h : HasLast reading.ended m.lines reading.held)
+    → GivenBy m.input m.lines reading
 given_last l0 l2 reading said stop m h =
-    let splits : Splits m.input h.front h.last = record { whole = whole_last l0 l2 reading said stop m h; each = h.whole; partial = h.unfinished } in
+    let splits : Splits m.input h.front h.last = record {
+      whole = whole_last l0 l2 reading said stop m h;
+      each =
+          h.whole;
+      partial = h.unfinished;
+    } in
     let all : m.lines ++ [] ≡ h.front ++ h.last ∷ [] = append-nil m.lines ∙ h.parts in
     elim h.why [
-      | inl ended ↦ record { ended = true; unread = []; given = record { split = (h.front, h.last, splits, inr (all, inl (refl, h.some))) }; only = λ _. ended }
-      | inr long ↦ record { ended = false; unread = []; given = record { split = (h.front, h.last, splits, inr (all, inr long)) }; only = λ e. absurd (cc (e)) }
+      | inl ended ↦ record {
+        ended = true;
+        unread = [];
+        given =
+            record { split = (h.front, h.last, splits, inr (all, inl (refl, h.some))) };
+        only = λ _. ended;
+      }
+      | inr long ↦ record {
+        ended = false;
+        unread = [];
+        given =
+            record { split = (h.front, h.last, splits, inr (all, inr long)) };
+        only = λ e. absurd (cc (e));
+      }
     ]
 
-given_of : (l0 l2 : Option (List ℕ)) (reading : Reading) (said : List LineData) (stop : StopData) (m : Moved l0 l2 reading said stop) → GivenBy m.input m.lines reading
+given_of : (l0 l2 : Option (List ℕ)) (reading : Reading) (said : List LineData) (stop : StopData)
+    (m : Moved l0 l2 reading said stop) → GivenBy m.input m.lines reading
 given_of l0 l2 reading said stop m =
     elim m.whole [
       | inl w ↦ given_behind l0 l2 reading said stop m w
@@ -112,21 +136,55 @@ given_of l0 l2 reading said stop m =
     ]
 
 -- at the end of the input all its lines were read
-all_given : (l0 l2 : Option (List ℕ)) (reading : Reading) (said : List LineData) (stop : StopData) (m : Moved l0 l2 reading said stop) → reading.held ≡ [] → Gives true m.input (m.lines ++ [])
+all_given : (l0 l2 : Option (List ℕ)) (reading : Reading) (said : List LineData) (stop : StopData)
+    (m : Moved l0 l2 reading said stop) → reading.held ≡ [] → Gives true m.input (m.lines ++ [])
 all_given l0 l2 reading said stop m none =
     elim m.whole [
-      | inl w ↦ record { split = (m.lines, [], record { whole = m.parts ∙ ap (λ (t : List ℕ). joined m.lines ++ t) none; each = w; partial = tt }, inl (append-nil m.lines, inr refl)) }
-      | inr h ↦ record { split = (h.front, h.last, record { whole = whole_last l0 l2 reading said stop m h; each = h.whole; partial = h.unfinished }, inr (append-nil m.lines ∙ h.parts, inl (refl, h.some))) }
+      | inl w ↦ record {
+        split = (
+          m.lines,
+          [],
+          record {
+            whole = m.parts ∙ ap (λ (t : List ℕ). joined m.lines ++ t) none;
+            each = w;
+            partial =
+                tt;
+          },
+          inl (append-nil m.lines, inr refl),
+        );
+      }
+      | inr h ↦ record {
+        split = (
+          h.front,
+          h.last,
+          record {
+            whole = whole_last l0 l2 reading said stop m h;
+            each = h.whole;
+            partial =
+                h.unfinished;
+          },
+          inr (append-nil m.lines ∙ h.parts, inl (refl, h.some)),
+        );
+      }
     ]
 
 -- where less than a line is held all whole lines were read
-whole_given : (l0 l2 : Option (List ℕ)) (reading : Reading) (said : List LineData) (m : Moved l0 l2 reading said at_end) → HoldsPart reading → reading.ended ≡ false → Gives false m.input (m.lines ++ [])
+whole_given : (l0 l2 : Option (List ℕ)) (reading : Reading) (said : List LineData) (m : Moved l0 l2 reading said at_end)
+    → HoldsPart reading → reading.ended ≡ false → Gives false m.input (m.lines ++ [])
 whole_given l0 l2 reading said m part goes_on =
     elim m.whole [
-      | inl w ↦ record { split = (m.lines, reading.held, record { whole = m.parts; each = w; partial = part.no_end }, inl (append-nil m.lines, inl refl)) }
+      | inl w ↦ record {
+        split = (
+          m.lines,
+          reading.held,
+          record { whole = m.parts; each = w; partial = part.no_end },
+          inl (append-nil m.lines, inl refl),
+        );
+      }
       | inr h ↦ elim h.why [
         | inl ended ↦ absurd (cc (ended, goes_on))
-        | inr long ↦ absurd (no_long 0 h.front h.last said (subst (λ (ls : List (List ℕ)). Reads 0 ls said at_end) h.parts m.reads) long)
+        | inr long ↦ absurd (no_long 0 h.front h.last said
+            (subst (λ (ls : List (List ℕ)). Reads 0 ls said at_end) h.parts m.reads) long)
       ]
     ]
 
@@ -137,130 +195,110 @@ found_sound : (files : Option Files) (base : BaseData) (room : ℕ) → Finds fi
 found_sound None base room finds = absurd finds
 found_sound (Some f) base room finds = finds.opens.sound
 
-told_history : (kept : KeptData) (history : List EntryData) → kept.state.feed ≡ Some history → history_in kept.state.feed ≡ history
-told_history kept history is = ap history_in is
-
 -- a run ends there
-ran_to : (files : Option Files) (base : BaseData) (room : ℕ) (said : List LineData) (answers : List AnswerData) (kept : KeptData) → Finds files base room → RunsTo base room said answers kept
-    → RanTo base room said answers (history_in kept.state.feed) kept.state.doubt kept.state.halted
+ran_to : (files : Option Files) (base : BaseData) (room : ℕ) (said : List LineData) (answers : List AnswerData)
+    (kept : KeptData) → Finds files base room → RunsTo base room said answers kept
+    → RanTo base room said answers (left_of kept.store)
 ran_to files base room said answers kept finds r =
-    let is : history_in kept.state.feed ≡ r.now.history = told_history kept r.now.history r.keeps.history in
+    let is : kept.store.earlier ++ unwrap_or kept.store.state.feed [] ≡ r.now.history =
+    ap (λ (o : Option (List EntryData)). kept.store.earlier ++ unwrap_or o []) r.keeps.feed ∙ sym r.keeps.history in
+    let legal = run_legal base (Some room) said answers r.now (found_sound files base room finds) r.run in
     record {
       final = r.now;
       run = r.run;
       history_is = is;
-      legal = subst (λ (h : List EntryData). IsLegalHistory base h) (sym is) (run_legal base room said answers r.now (found_sound files base room finds) r.run);
-      doubtful_is = ap (λ (h : List EntryData). doubts h kept.state.doubt) is ∙ r.keeps.doubtful;
+      legal = subst (λ (h : List EntryData). IsLegalHistory base h) (sym is) legal;
+      failed_is = r.keeps.failed;
+      doubt_is = r.keeps.doubt;
+      doubtful_is = ap₂ (λ (f d : List (ℕ × EntryData)). f ++ d) r.keeps.failed
+          (ap₂ (λ (h : List EntryData) (d : Option EntryData). doubts h d) is r.keeps.doubt);
       halted_is = r.keeps.halted;
     }
 
 -- the run so far over lines that say nothing more
-ran_on : (files : Option Files) (base : BaseData) (room : ℕ) (said : List LineData) (answers : List AnswerData) (kept : KeptData) → Finds files base room → RunsTo base room said answers kept
-    → RanTo base room (said ++ []) answers (history_in kept.state.feed) kept.state.doubt kept.state.halted
+ran_on : (files : Option Files) (base : BaseData) (room : ℕ) (said : List LineData) (answers : List AnswerData)
+    (kept : KeptData) → Finds files base room → RunsTo base room said answers kept
+    → RanTo base room (said ++ []) answers (left_of kept.store)
 ran_on files base room said answers kept finds r =
-    subst (λ (s : List LineData). RanTo base room s answers (history_in kept.state.feed) kept.state.doubt kept.state.halted) (sym (append-nil said)) (ran_to files base room said answers kept finds r)
+    subst (λ (s : List LineData). RanTo base room s answers (left_of kept.store)) (sym (append-nil said))
+    (ran_to files base room said answers kept finds r)
 
-pub input_ended : (files : Option Files) (l0 l1 l2 t0 t1 : Option (List ℕ)) (old new : Reading) (kept : KeptData)
-    → GoesOn files l0 l1 t0 t1 old kept → IsEndOfInput l1 l2 old new → IsRun files l0 l2 t0 t1 0 (history_in kept.state.feed) kept.state.doubt kept.state.halted
-input_ended files l0 l1 l2 t0 t1 old new kept g e =
-    let m = moved files l0 l1 l2 t0 t1 old new kept [] at_end g e.moves in
-    record {
+module _ (files : Option Files) (l0 l1 l2 t0 t1 : Option (List ℕ)) (old new : Reading) (kept : KeptData)
+    (g : GoesOn files l0 l1 t0 t1 old kept) where
+  -- a run ends before its next line, whose answers are all printed
+  ended_at : (stop : StopData) (status : ℕ) (ended : Bool) (unread : List (List ℕ))
+      (m : Moved l0 l2 new (g.said ++ []) stop)
+      → (IsTrue ended → IsAtEnd l2) → Gives ended m.input (m.lines ++ unread) → Ends status ended unread stop []
+      → HasEnded files l0 l2 t0 t1 status kept.store
+  ended_at stop status ended unread m over gives ends = record {
+    answers = g.answers;
+    run = record {
       input = m.input;
       took = m.took;
-      ended = true;
-      source_end = λ _. m.source_end e.ended;
+      ended = ended;
+      source_end = over;
       lines = m.lines;
-      unread = [];
-      given = all_given l0 l2 new (g.said ++ []) at_end m e.nothing_held;
-      said = g.said ++ [];
-      stop = at_end;
-      reads = m.reads;
-      answers = g.answers;
-      run = λ base room finds. ran_on files base room g.said g.answers kept finds (g.run base room finds);
-      fault_told = g.fault_told;
-      output = answers_text g.answers;
-      unprinted = [];
-      gave = g.gave;
-      text = sym (append-nil (answers_text g.answers));
-      ends = inl (refl, refl, refl, refl, refl);
-    }
-
-source_failed : (files : Option Files) (l0 l1 l2 t0 t1 : Option (List ℕ)) (f g1 : ℕ) (old new : Reading) (kept : KeptData)
-    → GoesOn files l0 l1 t0 t1 old kept → IsSourceFault l1 l2 f g1 old new → IsRun files l0 l2 t0 t1 3 (history_in kept.state.feed) kept.state.doubt kept.state.halted
-source_failed files l0 l1 l2 t0 t1 f g1 old new kept g e =
-    let m = moved files l0 l1 l2 t0 t1 old new kept [] at_end g e.moves in
-    record {
-      input = m.input;
-      took = m.took;
-      ended = false;
-      source_end = λ h. absurd (cc (h));
-      lines = m.lines;
-      unread = [];
-      given = whole_given l0 l2 new (g.said ++ []) m e.part e.goes_on;
-      said = g.said ++ [];
-      stop = at_end;
-      reads = m.reads;
-      answers = g.answers;
-      run = λ base room finds. ran_on files base room g.said g.answers kept finds (g.run base room finds);
-      fault_told = g.fault_told;
-      output = answers_text g.answers;
-      unprinted = [];
-      gave = g.gave;
-      text = sym (append-nil (answers_text g.answers));
-      ends = inr (inr (inl (refl, refl, refl, refl, refl)));
-    }
-
--- reading stopped, and all answers so far are printed
-stopped : (files : Option Files) (l0 l1 l2 t0 t1 : Option (List ℕ)) (old new : Reading) (kept : KeptData) (stop : StopData) (status : ℕ)
-    → GoesOn files l0 l1 t0 t1 old kept → Moves l1 l2 old new [] stop
-    → ((ended : Bool) (unread : List (List ℕ)) → Ends status ended unread stop []) → IsRun files l0 l2 t0 t1 status (history_in kept.state.feed) kept.state.doubt kept.state.halted
-stopped files l0 l1 l2 t0 t1 old new kept stop status g e ends =
-    let m = moved files l0 l1 l2 t0 t1 old new kept [] stop g e in
-    let b = given_of l0 l2 new (g.said ++ []) stop m in
-    record {
-      input = m.input;
-      took = m.took;
-      ended = b.ended;
-      source_end = λ h. m.source_end (b.only h);
-      lines = m.lines;
-      unread = b.unread;
-      given = b.given;
+      unread = unread;
+      given = gives;
       said = g.said ++ [];
       stop = stop;
       reads = m.reads;
-      answers = g.answers;
       run = λ base room finds. ran_on files base room g.said g.answers kept finds (g.run base room finds);
-      fault_told = g.fault_told;
       output = answers_text g.answers;
       unprinted = [];
       gave = g.gave;
-      text = sym (append-nil (answers_text g.answers));
-      ends = ends b.ended b.unread;
-    }
+      printed = inl (refl, refl);
+      ends = ends;
+    };
+    fault_told = g.fault_told;
+    halted_told = g.halted_told;
+  }
 
-pub line_failed : (files : Option Files) (l0 l1 l2 t0 t1 : Option (List ℕ)) (f g1 : ℕ) (old new : Reading) (kept : KeptData) (fault : LineFault)
-    → GoesOn files l0 l1 t0 t1 old kept → IsFault l1 l2 f g1 old new fault → IsRun files l0 l2 t0 t1 (fault_status fault) (history_in kept.state.feed) kept.state.doubt kept.state.halted
-line_failed files l0 l1 l2 t0 t1 f g1 old new kept faults.Source g e = source_failed files l0 l1 l2 t0 t1 f g1 old new kept g e
-line_failed files l0 l1 l2 t0 t1 f g1 old new kept faults.Bad g e = stopped files l0 l1 l2 t0 t1 old new kept at_bad_line 8 g e (λ _ _. inr (inr (inr (inr (inl (refl, refl, refl))))))
-line_failed files l0 l1 l2 t0 t1 f g1 old new kept faults.TooLarge g e = stopped files l0 l1 l2 t0 t1 old new kept at_limit 9 g e (λ _ _. inr (inr (inr (inr (inr (refl, refl, refl))))))
-line_failed files l0 l1 l2 t0 t1 f g1 old new kept faults.NoMemory g e = stopped files l0 l1 l2 t0 t1 old new kept at_end 2 g e (λ _ _. inr (inl (refl, refl)))
+  pub input_ended : IsEndOfInput l1 l2 old new → HasEnded files l0 l2 t0 t1 0 kept.store
+  input_ended e =
+      let m = moved files l0 l1 l2 t0 t1 old new kept [] at_end g e.moves in
+      ended_at at_end 0 true [] m (λ _. m.source_end e.ended)
+      (all_given l0 l2 new (g.said ++ []) at_end m e.nothing_held)
+      (inl (refl, refl, refl, refl, refl))
+
+  source_failed : (f f' : ℕ) → IsSourceFault l1 l2 f f' old new → HasEnded files l0 l2 t0 t1 3 kept.store
+  source_failed f f' e =
+      let m = moved files l0 l1 l2 t0 t1 old new kept [] at_end g e.moves in
+      ended_at at_end 3 false [] m (λ h. absurd (cc (h))) (whole_given l0 l2 new (g.said ++ []) m e.part e.goes_on)
+      (inr (inr (inl (refl, refl, refl, refl, refl))))
+
+  -- reading stopped
+  stopped : (stop : StopData) (status : ℕ) → Moves l1 l2 old new [] stop
+      → ((ended : Bool) (unread : List (List ℕ)) → Ends status ended unread stop [])
+      → HasEnded files l0 l2 t0 t1 status kept.store
+  stopped stop status e ends =
+      let m = moved files l0 l1 l2 t0 t1 old new kept [] stop g e in
+      let b = given_of l0 l2 new (g.said ++ []) stop m in
+      ended_at stop status b.ended b.unread m (λ h. m.source_end (b.only h)) b.given (ends b.ended b.unread)
+
+  pub line_failed : (f f' : ℕ) (fault : LineFault) → IsFault l1 l2 f f' old new fault
+      → HasEnded files l0 l2 t0 t1 (fault_status fault) kept.store
+  line_failed f f' faults.Source e = source_failed f f' e
+  line_failed f f' faults.Bad e = stopped at_bad_line 8 e (λ _ _. inr (inr (inr (inr (inl (refl, refl, refl))))))
+  line_failed f f' faults.TooLarge e = stopped at_limit 9 e (λ _ _. inr (inr (inr (inr (inr (refl, refl, refl))))))
+  line_failed f f' faults.NoMemory e = stopped at_end 2 e (λ _ _. inr (inl (refl, refl)))
 
 -- ---- after a line
 
 -- the run with one line more
-runs_on : (base : BaseData) (room : ℕ) (said : List LineData) (answers : List AnswerData) (kept : KeptData) (line : LineData) (answer : AnswerData) (kept2 : KeptData)
-    → RunsTo base room said answers kept → ((run : RunData) → Keeps kept run → IsStepped run line answer kept2) → RunsTo base room (said ++ line ∷ []) (answers ++ answer ∷ []) kept2
-runs_on base room said answers kept line answer kept2 r stepped =
-    let s = stepped r.now r.keeps in
-    record { now = s.next; run = Run-then (run_start base room) r.now s.next said line answers answer r.run s.stepped; keeps = s.keeps }
-
--- the one element of a list
-one_is : {X : Type 0} (k : ℕ) (x y : X) → k < 1 → y ≡ get_or (y ∷ []) k x
-one_is zero x y within = refl
-one_is (suc k) x y within = absurd (omega arith)
+runs_on : (base : BaseData) (room : ℕ) (said : List LineData) (answers : List AnswerData) (kept : KeptData)
+    (line : LineData) (answer : AnswerData) (next : KeptData) → RunsTo base room said answers kept
+    → IsStepped kept line answer next → RunsTo base room (said ++ line ∷ []) (answers ++ answer ∷ []) next
+runs_on base room said answers kept line answer next r stepped =
+    let s = stepped.steps r.now r.keeps in
+    record {
+      now = s.0;
+      run = Run-then (run_start base (Some room)) r.now s.0 said line answers answer r.run s.1;
+      keeps = s.2;
+    }
 
 some_push : {X : Type 0} (P : X → Type 0) (xs : List X) (y : X) → Any P (xs ++ y ∷ []) → Any P xs ⊎ P y
-some_push P [] y (k, x, within, is, has) = inr (subst P (sym is ∙ sym (one_is k x y within)) has)
+some_push P [] y found = inr (only P y found)
 some_push P (z ∷ xs) y (zero, x, within, is, has) = inl (zero, x, omega arith, is, has)
 some_push P (z ∷ xs) y (suc k, x, within, is, has) =
     elim (some_push P xs y (k, x, omega arith, is, has)) [
@@ -268,151 +306,176 @@ some_push P (z ∷ xs) y (suc k, x, within, is, has) =
       | inr last ↦ inr last
     ]
 
--- an answer tells of a fault only where the log is halted
-told_on : (answers : List AnswerData) (answer : AnswerData) (halted halted2 : Option ℕ) → StaysHalted halted halted2 → (Any (λ a. IsTrue (tells_fault a)) answers → IsSome halted)
-    → (IsTrue (tells_fault answer) → IsSome halted2) → Any (λ a. IsTrue (tells_fault a)) (answers ++ answer ∷ []) → IsSome halted2
-told_on answers answer halted halted2 stays before last found =
-    elim (some_push (λ a. IsTrue (tells_fault a)) answers answer found) [
-      | inl earlier ↦ let some = before earlier in subst (λ (h : Option ℕ). IsSome h) (sym (stays some)) some
-      | inr here ↦ last here
+-- what an answer tells holds after it, where it stays so and where the next answer tells it
+told_on : {Before After : Type 0} (P : AnswerData → Type 0) (answers : List AnswerData) (answer : AnswerData)
+    → (Before → After) → (P answer → After) → (Any P answers → Before) → Any P (answers ++ answer ∷ []) → After
+told_on P answers answer stays told before found =
+    elim (some_push P answers answer found) [
+      | inl earlier ↦ stays (before earlier)
+      | inr here ↦ told here
     ]
 
-printed_text : (answers : List AnswerData) (answer : AnswerData) (output unprinted : List ℕ) → answer_text answer ≡ output ++ unprinted
-    → answers_text (answers ++ answer ∷ []) ≡ (answers_text answers ++ output) ++ unprinted
-printed_text answers answer output unprinted text =
-    answers_text-append answers (answer ∷ []) ∙ ap (λ (t : List ℕ). answers_text answers ++ t) (append-nil (answer_text answer) ∙ text)
-    ∙ sym (append_assoc (answers_text answers) output unprinted)
+more_text : (answers : List AnswerData) (answer : AnswerData)
+    → answers_text (answers ++ answer ∷ []) ≡ answers_text answers ++ answer_text answer
+more_text answers answer =
+    answers_text-append answers (answer ∷ [])
+    ∙ ap (λ (t : List ℕ). answers_text answers ++ t) (append-nil (answer_text answer))
 
-went_on : (files : Option Files) (l0 l1 l2 t0 t1 t2 : Option (List ℕ)) (old new : Reading) (kept : KeptData) (line : Line) (kept2 : KeptData)
-    (g : GoesOn files l0 l1 t0 t1 old kept) → IsLine l1 l2 old new line → IsAnsweredTo kept (line_of line) t1 t2 Answered kept2 → GoesOn files l0 l2 t0 t2 new kept2
-went_on files l0 l1 l2 t0 t1 t2 old new kept line kept2 g e a =
-    let m = moved files l0 l1 l2 t0 t1 old new kept (line_of line ∷ []) at_end g e.moves in
-    let text : answers_text (g.answers ++ a.answer ∷ []) ≡ answers_text g.answers ++ a.output =
-    printed_text g.answers a.answer a.output a.unprinted a.text ∙ ap (λ (t : List ℕ). (answers_text g.answers ++ a.output) ++ t) a.printed ∙ append-nil (answers_text g.answers ++ a.output) in
-    record {
-      input = m.input;
-      took = m.took;
-      source_end = m.source_end;
-      lines = m.lines;
-      parts = m.parts;
-      given = m.given;
-      whole = m.whole;
-      said = g.said ++ line_of line ∷ [];
-      reads = m.reads;
-      answers = g.answers ++ a.answer ∷ [];
-      run = λ base room finds. runs_on base room g.said g.answers kept (line_of line) a.answer kept2 (g.run base room finds) a.stepped;
-      fault_told = told_on g.answers a.answer kept.state.halted kept2.state.halted a.halted_stays g.fault_told a.fault_told;
-      gave = subst (λ (t : List ℕ). Gave t0 t2 t) (sym text) (gave_more t0 t1 t2 (answers_text g.answers) a.output g.gave a.gave);
-    }
+module _ (files : Option Files) (l0 l1 l2 t0 t1 t2 : Option (List ℕ)) (old new : Reading) (kept : KeptData)
+    (line : Line)
+    (next : KeptData) (g : GoesOn files l0 l1 t0 t1 old kept) (e : IsLine l1 l2 old new line) where
+  went_on : IsAnsweredTo kept (line_of line) t1 t2 Answered next → GoesOn files l0 l2 t0 t2 new next
+  went_on a =
+      let m = moved files l0 l1 l2 t0 t1 old new kept (line_of line ∷ []) at_end g e.moves in
+      let whole : answer_text a.answer ≡ a.output =
+      a.text ∙ ap (λ (t : List ℕ). a.output ++ t) a.printed ∙ append-nil a.output in
+      let text = more_text g.answers a.answer ∙ ap (λ (t : List ℕ). answers_text g.answers ++ t) whole in
+      record {
+        input = m.input;
+        took = m.took;
+        source_end = m.source_end;
+        lines = m.lines;
+        parts = m.parts;
+        given = m.given;
+        whole = m.whole;
+        said = g.said ++ line_of line ∷ [];
+        reads = m.reads;
+        answers = g.answers ++ a.answer ∷ [];
+        run = λ base room finds.
+            runs_on base room g.said g.answers kept (line_of line) a.answer next (g.run base room finds) a.stepped;
+        fault_told = told_on (λ x. IsTrue (tells_fault x)) g.answers a.answer a.stepped.failed_stays
+            a.stepped.fault_told g.fault_told;
+        halted_told = λ at. told_on (λ x. TellsHalted at x) g.answers a.answer (a.stepped.halted_stays at)
+            (a.stepped.halted_told at) (g.halted_told at);
+        gave = subst (λ (t : List ℕ). Gave t0 t2 t) (sym text)
+            (gave_more t0 t1 t2 (answers_text g.answers) a.output g.gave a.gave);
+      }
 
-printing_ended : (files : Option Files) (l0 l1 l2 t0 t1 t2 : Option (List ℕ)) (old new : Reading) (kept : KeptData) (line : Line) (kept2 : KeptData) (status : ℕ)
-    (g : GoesOn files l0 l1 t0 t1 old kept) → IsLine l1 l2 old new line → IsAnsweredTo kept (line_of line) t1 t2 (Ended status) kept2 → IsRun files l0 l2 t0 t2 status (history_in kept2.state.feed) kept2.state.doubt kept2.state.halted
-printing_ended files l0 l1 l2 t0 t1 t2 old new kept line kept2 status g e a =
-    let m = moved files l0 l1 l2 t0 t1 old new kept (line_of line ∷ []) at_end g e.moves in
-    let b = given_of l0 l2 new (g.said ++ line_of line ∷ []) at_end m in
-    record {
-      input = m.input;
-      took = m.took;
-      ended = b.ended;
-      source_end = λ h. m.source_end (b.only h);
-      lines = m.lines;
-      unread = b.unread;
-      given = b.given;
-      said = g.said ++ line_of line ∷ [];
-      stop = at_end;
-      reads = m.reads;
-      answers = g.answers ++ a.answer ∷ [];
-      run = λ base room finds. ran_to files base room _ _ kept2 finds (runs_on base room g.said g.answers kept (line_of line) a.answer kept2 (g.run base room finds) a.stepped);
-      fault_told = told_on g.answers a.answer kept.state.halted kept2.state.halted a.halted_stays g.fault_told a.fault_told;
-      output = answers_text g.answers ++ a.output;
-      unprinted = a.unprinted;
-      gave = gave_more t0 t1 t2 (answers_text g.answers) a.output g.gave a.gave;
-      text = printed_text g.answers a.answer a.output a.unprinted a.text;
-      ends = elim a.printed [
-        | inl memory ↦ inr (inl (memory, refl))
-        | inr sink ↦ inr (inr (inr (inl (sink, refl))))
-      ];
-    }
+  printing_ended : (status : ℕ) → IsAnsweredTo kept (line_of line) t1 t2 (Ended status) next
+      → HasEnded files l0 l2 t0 t2 status next.store
+  printing_ended status a =
+      let m = moved files l0 l1 l2 t0 t1 old new kept (line_of line ∷ []) at_end g e.moves in
+      let b = given_of l0 l2 new (g.said ++ line_of line ∷ []) at_end m in
+      record {
+        answers = g.answers ++ a.answer ∷ [];
+        run = record {
+          input = m.input;
+          took = m.took;
+          ended = b.ended;
+          source_end = λ h. m.source_end (b.only h);
+          lines = m.lines;
+          unread = b.unread;
+          given = b.given;
+          said = g.said ++ line_of line ∷ [];
+          stop = at_end;
+          reads = m.reads;
+          run = λ base room finds. ran_to files base room _ _ next finds
+              (runs_on base room g.said g.answers kept (line_of line) a.answer next (g.run base room finds) a.stepped);
+          output = answers_text g.answers ++ a.output;
+          unprinted = a.unprinted;
+          gave = gave_more t0 t1 t2 (answers_text g.answers) a.output g.gave a.gave;
+          printed = inr (record {
+            before = g.answers;
+            last = a.answer;
+            front = a.output;
+            answers_are = refl;
+            text = a.text;
+            printed = refl;
+          });
+          ends = elim a.printed [
+            | inl memory ↦ inr (inl (memory, refl))
+            | inr sink ↦ inr (inr (inr (inl (sink, refl))))
+          ];
+        };
+        fault_told = told_on (λ x. IsTrue (tells_fault x)) g.answers a.answer a.stepped.failed_stays
+            a.stepped.fault_told g.fault_told;
+        halted_told = λ at. told_on (λ x. TellsHalted at x) g.answers a.answer (a.stepped.halted_stays at)
+            (a.stepped.halted_told at) (g.halted_told at);
+      }
 
-pub after_line : (files : Option Files) (l0 l1 l2 t0 t1 t2 : Option (List ℕ)) (old new : Reading) (kept : KeptData) (line : Line) (kept2 : KeptData) (turn : Turn)
-    (g : GoesOn files l0 l1 t0 t1 old kept) → IsLine l1 l2 old new line → IsAnsweredTo kept (line_of line) t1 t2 turn kept2 → IsTurned files l0 l2 t0 t2 new kept2 turn
-after_line files l0 l1 l2 t0 t1 t2 old new kept line kept2 Answered g e a = went_on files l0 l1 l2 t0 t1 t2 old new kept line kept2 g e a
-after_line files l0 l1 l2 t0 t1 t2 old new kept line kept2 (Ended status) g e a = printing_ended files l0 l1 l2 t0 t1 t2 old new kept line kept2 status g e a
+  pub after_line : (turn : Turn) → IsAnsweredTo kept (line_of line) t1 t2 turn next
+      → IsTurned files l0 l2 t0 t2 new next turn
+  after_line Answered a = went_on a
+  after_line (Ended status) a = printing_ended status a
 
 -- ---- the start
 
--- what is kept of an engine that was started, and whose sessions have done nothing yet
+-- what is kept where an opening found this base, and nothing has been done yet
 pub record IsBegun (base : BaseData) (room : ℕ) (kept : KeptData) : Type 0 where
-  pub sound : IsSoundBase base
-  pub base_is : kept.state.base ≡ Some base
-  pub room_is : kept.state.room ≡ Some room
-  pub history : kept.state.feed ≡ Some []
-  pub doubt : kept.state.doubt ≡ None
-  pub going : kept.state.halted ≡ None
-  pub current : kept.current ≡ replicate MAX_SESSIONS None
+  pub started : IsStarted base room kept.store.state
+  pub fresh : IsFresh kept.store.state
+  pub first : kept.store.earlier ≡ []
+  pub none_failed : kept.store.failed ≡ []
+  pub sessions : kept.sessions ≡ replicate MAX_SESSIONS closed
 
-pub begun_of : (k : Kept) (opening : OpeningData) (current : List (Option TxData)) (base : BaseData) (room : ℕ) → IsFresh k → current ≡ replicate MAX_SESSIONS None → IsStarted k base room
-    → IsBegun base room (record { state = state_of k opening; current = current })
-begun_of k opening current base room fresh none is_started = record {
-  sound = is_started.sound;
-  base_is = ap (λ (b : BaseData). Some b) is_started.rows_are;
-  room_is = ap (λ (n : ℕ). Some n) is_started.room_is;
-  history = ap (λ (es : List Entry). Some (entries_of es)) fresh.feed;
-  doubt = ap (λ (o : Option Entry). option_map entry_of o) fresh.doubt;
-  going = fresh.halted;
-  current = none;
-}
-
-begun_keeps : (base : BaseData) (room : ℕ) (kept : KeptData) → IsBegun base room kept → Keeps kept (run_start base room)
+begun_keeps : (base : BaseData) (room : ℕ) (kept : KeptData) → IsBegun base room kept
+    → Keeps kept (run_start base (Some room))
 begun_keeps base room kept begun = record {
-  sound = begun.sound;
-  base = begun.base_is;
-  history = begun.history;
-  halted = begun.going;
-  doubtful = ap (λ (d : Option EntryData). doubts [] d) begun.doubt;
-  room = λ _. (begun.room_is, begun.doubt);
-  current = begun.current;
+  sound = begun.started.sound;
+  base = begun.started.base_is;
+  feed = begun.fresh.feed;
+  history = sym (ap (λ (es : List EntryData). es ++ []) begun.first);
+  failed = begun.none_failed;
+  halted = begun.fresh.halted;
+  doubt = begun.fresh.doubt;
+  limit = begun.started.limit_is;
+  sessions = begun.sessions;
 }
 
-pub started : (files : Option Files) (left taken : Option (List ℕ)) (reading : Reading) (kept : KeptData) → reading ≡ record { given = 0; held = []; ended = false }
-    → ((base : BaseData) (room : ℕ) → Finds files base room → IsBegun base room kept) → GoesOn files left left taken taken reading kept
-started files left taken reading kept fresh keeps =
-    subst (λ (r : Reading). GoesOn files left left taken taken r kept) (sym fresh) (record {
+module _ (files : Option Files) (left taken : Option (List ℕ)) (kept : KeptData)
+    (begun : (base : BaseData) (room : ℕ) → Finds files base room → IsBegun base room kept) where
+  runs_none : (base : BaseData) (room : ℕ) → Finds files base room → RunsTo base room [] [] kept
+  runs_none base room finds = record {
+    now = run_start base (Some room);
+    run = refl;
+    keeps = begun_keeps base room kept (begun base room finds);
+  }
+
+  none_told : {T : Type 0} (P : AnswerData → Type 0) → Any P [] → T
+  none_told P found = absurd (omega (arith, found.2))
+
+  pub started : (reading : Reading) → reading ≡ record { given = 0; held = []; ended = false }
+      → GoesOn files left left taken taken reading kept
+  started reading fresh =
+      subst (λ (r : Reading). GoesOn files left left taken taken r kept) (sym fresh) (record {
+        input = [];
+        took = took_nothing left;
+        source_end = λ e. absurd (cc (e));
+        lines = [];
+        parts = refl;
+        given = refl;
+        whole = inl tt;
+        said = [];
+        reads = (refl, refl);
+        answers = [];
+        run = runs_none;
+        fault_told = none_told (λ x. IsTrue (tells_fault x));
+        halted_told = λ at. none_told (λ x. TellsHalted at x);
+        gave = gave_nothing taken;
+      })
+
+  -- before anything is read memory may be wanting
+  pub not_begun : HasEnded files left left taken taken 2 kept.store
+  not_begun = record {
+    answers = [];
+    run = record {
       input = [];
       took = took_nothing left;
+      ended = false;
       source_end = λ e. absurd (cc (e));
       lines = [];
-      parts = refl;
-      given = refl;
-      whole = inl tt;
+      unread = [];
+      given = record { split = ([], [], record { whole = refl; each = tt; partial = tt }, inl (refl, inl refl)) };
       said = [];
+      stop = at_end;
       reads = (refl, refl);
-      answers = [];
-      run = λ base room finds. record { now = run_start base room; run = refl; keeps = begun_keeps base room kept (keeps base room finds) };
-      fault_told = λ found. absurd (omega (arith, found.2));
+      run = λ base room finds. ran_to files base room [] [] kept finds (runs_none base room finds);
+      output = [];
+      unprinted = [];
       gave = gave_nothing taken;
-    })
-
--- before anything is read memory may be wanting
-pub not_begun : (files : Option Files) (left taken : Option (List ℕ)) (kept : KeptData) → ((base : BaseData) (room : ℕ) → Finds files base room → IsBegun base room kept)
-    → IsRun files left left taken taken 2 (history_in kept.state.feed) kept.state.doubt kept.state.halted
-not_begun files left taken kept keeps = record {
-  input = [];
-  took = took_nothing left;
-  ended = false;
-  source_end = λ e. absurd (cc (e));
-  lines = [];
-  unread = [];
-  given = record { split = ([], [], record { whole = refl; each = tt; partial = tt }, inl (refl, inl refl)) };
-  said = [];
-  stop = at_end;
-  reads = (refl, refl);
-  answers = [];
-  run = λ base room finds. ran_to files base room [] [] kept finds (record { now = run_start base room; run = refl; keeps = begun_keeps base room kept (keeps base room finds) });
-  fault_told = λ found. absurd (omega (arith, found.2));
-  output = [];
-  unprinted = [];
-  gave = gave_nothing taken;
-  text = refl;
-  ends = inr (inl (refl, refl));
-}
+      printed = inl (refl, refl);
+      ends = inr (inl (refl, refl));
+    };
+    fault_told = none_told (λ x. IsTrue (tells_fault x));
+    halted_told = λ at. none_told (λ x. TellsHalted at x);
+  }

@@ -3,8 +3,6 @@ mod Counted
 mod Telling
 mod Numbered
 mod Lines
-pub mod Legal
-mod Told
 mod Runs
 mod Ends
 mod Outcomes

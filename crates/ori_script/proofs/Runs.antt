@@ -1,12 +1,14 @@
 -- A run goes on with a line, and ends.
-use Rattle.std.proofs.Common.{◌≡◌, ◌⊎◌, ℕ, ◌+◌, ◌<◌, Bool, List, [], ◌∷◌, ◌++◌, length, Option, refl, sym, ap, ◌∙◌, append_assoc, inl, inr, arith, subst, IsTrue}
+use Rattle.std.specs.Prelude.{Any, get_or}
+use Rattle.std.proofs.Common.{◌≡◌, ◌⊎◌, ℕ, zero, suc, ◌+◌, ◌<◌, Bool, List, [], ◌∷◌, ◌++◌, length, Option, refl, sym}
+use Rattle.std.proofs.Common.{ap, ◌∙◌, append_assoc, inl, inr, arith, subst, IsTrue}
 use Rattle.std.proofs.lemmas.List.{append-nil, length-append, nil_from_length}
 use Rattle.ori_volume.specs.Disk.{Files}
 use Rattle.ori_volume.specs.Streams.{Took}
 use Rattle.ori_volume.proofs.Pieces.{took_more}
-use Rattle.ori_spec.specs.Line.{LineData, StopData, at_end, Reads}
-use Rattle.ori_spec.specs.Reply.{AnswerData, answer_text, answers_text}
-use Rattle.ori_spec.specs.Run.{RunData, Step, Run}
+use Rattle.ori_spec_texts.specs.Line.{LineData, StopData, at_end, Reads}
+use Rattle.ori_spec_texts.specs.Reply.{AnswerData, answer_text, answers_text}
+use Rattle.ori_spec_runs.specs.Run.{RunData, Step, Run}
 use Rattle.ori_text.specs.Lines.{Reading, joined, AreWhole, HasLast}
 use Rattle.ori_text.specs.LineReading.{IsAtEnd, Moves}
 use Rattle.ori_script.specs.Keeping.{KeptData}
@@ -14,31 +16,46 @@ use Rattle.ori_script.specs.Script.{GoesOn}
 use Rattle.ori_text.proofs.Splitting.{joined-append, AreWhole-append}
 use Rattle.ori_text.proofs.Reading.{Reads-then, no_long}
 
-pub Run-then : (old mid new : RunData) (lines : List LineData) (line : LineData) (answers : List AnswerData) (answer : AnswerData)
+-- the one element of a list
+one_is : {X : Type 0} (k : ℕ) (x y : X) → k < 1 → y ≡ get_or (y ∷ []) k x
+one_is zero x y within = refl
+one_is (suc k) x y within = absurd (omega arith)
+
+pub only : {X : Type 0} (P : X → Type 0) (y : X) → Any P (y ∷ []) → P y
+only P y (k, x, within, is, has) = subst P (sym is ∙ sym (one_is k x y within)) has
+
+pub Run-then : (old mid new : RunData) (lines : List LineData) (line : LineData) (answers : List AnswerData)
+    (answer : AnswerData)
     → Run old lines answers mid → Step mid line answer new → Run old (lines ++ line ∷ []) (answers ++ answer ∷ []) new
 Run-then old mid new [] line [] answer p step = (new, subst (λ (s : RunData). Step s line answer new) p step, refl)
 Run-then old mid new [] line (a ∷ answers) answer p step = absurd p
 Run-then old mid new (l ∷ lines) line [] answer p step = absurd p
-Run-then old mid new (l ∷ lines) line (a ∷ answers) answer p step = (p.0, p.1, Run-then p.0 mid new lines line answers answer p.2 step)
+Run-then old mid new (l ∷ lines) line (a ∷ answers) answer p step =
+    (p.0, p.1, Run-then p.0 mid new lines line answers answer p.2 step)
 
 pub answers_text-append : (xs ys : List AnswerData) → answers_text (xs ++ ys) ≡ answers_text xs ++ answers_text ys
 answers_text-append [] ys = refl
-answers_text-append (x ∷ xs) ys = ap (λ (t : List ℕ). answer_text x ++ t) (answers_text-append xs ys) ∙ sym (append_assoc (answer_text x) (answers_text xs) (answers_text ys))
+answers_text-append (x ∷ xs) ys = ap (λ (t : List ℕ). answer_text x ++ t) (answers_text-append xs ys)
+    ∙ sym (append_assoc (answer_text x) (answers_text xs) (answers_text ys))
 
 -- lines have bytes
-some_joined : (line : List ℕ) (lines : List (List ℕ)) (ended : Bool) (held : List ℕ) → AreWhole (line ∷ lines) ⊎ HasLast ended (line ∷ lines) held → 0 < length (joined (line ∷ lines))
+some_joined : (line : List ℕ) (lines : List (List ℕ)) (ended : Bool) (held : List ℕ) → AreWhole (line ∷ lines)
+    ⊎ HasLast ended (line ∷ lines) held → 0 < length (joined (line ∷ lines))
 some_joined line lines ended held (inl whole) =
     omega (arith, length-append line (joined lines), ap length whole.0.1, length-append whole.0.0 (10 ∷ []))
 some_joined line lines ended held (inr h) =
-    let all : joined (line ∷ lines) ≡ joined h.front ++ (h.last ++ []) = ap joined h.parts ∙ joined-append h.front (h.last ∷ []) in
+    let all : joined (line ∷ lines) ≡ joined h.front ++ (h.last ++ []) = ap joined h.parts
+    ∙ joined-append h.front (h.last ∷ []) in
     omega (arith, ap length all, length-append (joined h.front) (h.last ++ []), length-append h.last [], h.some)
 
-no_lines : (lines : List (List ℕ)) (ended : Bool) (held : List ℕ) → AreWhole lines ⊎ HasLast ended lines held → length (joined lines) ≡ 0 → lines ≡ []
+no_lines : (lines : List (List ℕ)) (ended : Bool) (held : List ℕ) → AreWhole lines ⊎ HasLast ended lines held
+    → length (joined lines) ≡ 0 → lines ≡ []
 no_lines [] ended held w e = refl
 no_lines (line ∷ lines) ended held w e = absurd (omega (arith, some_joined line lines ended held w))
 
 -- how far the input was read
-pub record Moved (left_old left_new : Option (List ℕ)) (reading : Reading) (said : List LineData) (stop : StopData) : Type 0 where
+pub record Moved (left_old left_new : Option (List ℕ)) (reading : Reading) (said : List LineData) (stop : StopData) :
+    Type 0 where
   pub input : List ℕ
   pub took : Took left_old left_new input
   pub source_end : IsTrue reading.ended → IsAtEnd left_new
@@ -48,7 +65,8 @@ pub record Moved (left_old left_new : Option (List ℕ)) (reading : Reading) (sa
   pub whole : AreWhole lines ⊎ HasLast reading.ended lines reading.held
   pub reads : Reads 0 lines said stop
 
-last_after : (lines : List (List ℕ)) (ended : Bool) (more : List (List ℕ)) (held : List ℕ) → AreWhole lines → HasLast ended more held → HasLast ended (lines ++ more) held
+last_after : (lines : List (List ℕ)) (ended : Bool) (more : List (List ℕ)) (held : List ℕ) → AreWhole lines
+    → HasLast ended more held → HasLast ended (lines ++ more) held
 last_after lines ended more held w h = record {
   front = lines ++ h.front;
   last = h.last;
@@ -61,8 +79,10 @@ last_after lines ended more held w h = record {
 }
 
 -- further lines behind whole ones
-moved_behind : (files : Option Files) (l0 l1 l2 t0 t1 : Option (List ℕ)) (old new : Reading) (kept : KeptData) (said : List LineData) (stop : StopData)
-    (g : GoesOn files l0 l1 t0 t1 old kept) → AreWhole g.lines → (m : Moves l1 l2 old new said stop) → (IsTrue new.ended → IsAtEnd l2) → Moved l0 l2 new (g.said ++ said) stop
+moved_behind : (files : Option Files) (l0 l1 l2 t0 t1 : Option (List ℕ)) (old new : Reading) (kept : KeptData)
+    (said : List LineData) (stop : StopData)
+    (g : GoesOn files l0 l1 t0 t1 old kept) → AreWhole g.lines → (m : Moves l1 l2 old new said stop)
+    → (IsTrue new.ended → IsAtEnd l2) → Moved l0 l2 new (g.said ++ said) stop
 moved_behind files l0 l1 l2 t0 t1 old new kept said stop g w m over =
     let a = m.advances in
     let all : joined (g.lines ++ m.lines) ≡ joined g.lines ++ joined m.lines = joined-append g.lines m.lines in
@@ -71,31 +91,40 @@ moved_behind files l0 l1 l2 t0 t1 old new kept said stop g w m over =
       took = took_more l0 l1 l2 g.input m.more g.took m.took;
       source_end = over;
       lines = g.lines ++ m.lines;
-      parts = ap (λ (t : List ℕ). t ++ m.more) g.parts ∙ append_assoc (joined g.lines) old.held m.more ∙ ap (λ (t : List ℕ). joined g.lines ++ t) a.parts
-          ∙ sym (append_assoc (joined g.lines) (joined m.lines) new.held) ∙ ap (λ (t : List ℕ). t ++ new.held) (sym all);
+      parts = ap (λ (t : List ℕ). t ++ m.more) g.parts ∙ append_assoc (joined g.lines) old.held m.more
+          ∙ ap (λ (t : List ℕ). joined g.lines ++ t) a.parts
+          ∙ sym (append_assoc (joined g.lines) (joined m.lines) new.held)
+          ∙ ap (λ (t : List ℕ). t ++ new.held) (sym all);
       given = omega (arith, a.given, g.given, ap length all, length-append (joined g.lines) (joined m.lines));
       whole = elim a.whole [
         | inl more ↦ inl (AreWhole-append g.lines m.lines w more)
         | inr h ↦ inr (last_after g.lines new.ended m.lines new.held w h)
       ];
-      reads = Reads-then 0 g.lines m.lines g.said said stop g.reads (subst (λ (n : ℕ). Reads n m.lines said stop) (omega (arith, g.given)) a.reads);
+      reads = Reads-then 0 g.lines m.lines g.said said stop g.reads
+          (subst (λ (n : ℕ). Reads n m.lines said stop) (omega (arith, g.given)) a.reads);
     }
 
-ended_before : (files : Option Files) (l0 l1 t0 t1 : Option (List ℕ)) (old : Reading) (kept : KeptData) (g : GoesOn files l0 l1 t0 t1 old kept) → HasLast old.ended g.lines old.held → IsTrue old.ended
+ended_before : (files : Option Files) (l0 l1 t0 t1 : Option (List ℕ)) (old : Reading) (kept : KeptData)
+    (g : GoesOn files l0 l1 t0 t1 old kept) → HasLast old.ended g.lines old.held → IsTrue old.ended
 ended_before files l0 l1 t0 t1 old kept g h =
     elim h.why [
       | inl ended ↦ ended
-      | inr long ↦ absurd (no_long 0 h.front h.last g.said (subst (λ (ls : List (List ℕ)). Reads 0 ls g.said at_end) h.parts g.reads) long)
+      | inr long ↦ absurd (no_long 0 h.front h.last g.said
+          (subst (λ (ls : List (List ℕ)). Reads 0 ls g.said at_end) h.parts g.reads) long)
     ]
 
 -- behind a last line without an end nothing comes
-moved_over : (files : Option Files) (l0 l1 l2 t0 t1 : Option (List ℕ)) (old new : Reading) (kept : KeptData) (said : List LineData) (stop : StopData)
-    (g : GoesOn files l0 l1 t0 t1 old kept) → HasLast old.ended g.lines old.held → (m : Moves l1 l2 old new said stop) → (IsTrue new.ended → IsAtEnd l2) → Moved l0 l2 new (g.said ++ said) stop
+moved_over : (files : Option Files) (l0 l1 l2 t0 t1 : Option (List ℕ)) (old new : Reading) (kept : KeptData)
+    (said : List LineData) (stop : StopData)
+    (g : GoesOn files l0 l1 t0 t1 old kept) → HasLast old.ended g.lines old.held → (m : Moves l1 l2 old new said stop)
+    → (IsTrue new.ended → IsAtEnd l2) → Moved l0 l2 new (g.said ++ said) stop
 moved_over files l0 l1 l2 t0 t1 old new kept said stop g h m over =
     let a = m.advances in
     let past = a.over (ended_before files l0 l1 t0 t1 old kept g h) in
-    let none : [] ≡ joined m.lines ++ new.held = sym (ap (λ (t : List ℕ). t ++ m.more) h.nothing_held ∙ past.0) ∙ a.parts in
-    let sum : 0 ≡ length (joined m.lines) + length new.held = ap length none ∙ length-append (joined m.lines) new.held in
+    let none : [] ≡ joined m.lines ++ new.held = sym (ap (λ (t : List ℕ). t ++ m.more) h.nothing_held ∙ past.0)
+    ∙ a.parts in
+    let sum : 0 ≡ length (joined m.lines) + length new.held = ap length none
+    ∙ length-append (joined m.lines) new.held in
     let no_more : m.lines ≡ [] = no_lines m.lines new.ended new.held a.whole (omega (arith, sum)) in
     let ends = subst (λ (ls : List (List ℕ)). Reads old.given ls said stop) no_more a.reads in
     let held_none : new.held ≡ [] = nil_from_length new.held (omega (arith, sum)) in
@@ -104,15 +133,28 @@ moved_over files l0 l1 l2 t0 t1 old new kept said stop g h m over =
       took = took_more l0 l1 l2 g.input m.more g.took m.took;
       source_end = over;
       lines = g.lines;
-      parts = ap (λ (t : List ℕ). t ++ m.more) g.parts ∙ ap (λ (t : List ℕ). (joined g.lines ++ old.held) ++ t) past.0 ∙ append-nil (joined g.lines ++ old.held)
+      parts = ap (λ (t : List ℕ). t ++ m.more) g.parts ∙ ap (λ (t : List ℕ). (joined g.lines ++ old.held) ++ t) past.0
+          ∙ append-nil (joined g.lines ++ old.held)
           ∙ ap (λ (t : List ℕ). joined g.lines ++ t) (h.nothing_held ∙ sym held_none);
       given = omega (arith, a.given, g.given, ap (λ (ls : List (List ℕ)). length (joined ls)) no_more);
-      whole = inr (record { front = h.front; last = h.last; parts = h.parts; whole = h.whole; unfinished = h.unfinished; some = h.some; nothing_held = held_none; why = inl past.1 });
-      reads = subst (λ (s : List LineData). Reads 0 g.lines s stop) (sym (append-nil g.said) ∙ ap (λ (s : List LineData). g.said ++ s) (sym ends.0))
+      whole = inr (record {
+        front = h.front;
+        last = h.last;
+        parts = h.parts;
+        whole = h.whole;
+        unfinished =
+            h.unfinished;
+        some = h.some;
+        nothing_held = held_none;
+        why = inl past.1;
+      });
+      reads = subst (λ (s : List LineData). Reads 0 g.lines s stop) (sym (append-nil g.said)
+          ∙ ap (λ (s : List LineData). g.said ++ s) (sym ends.0))
           (subst (λ (st : StopData). Reads 0 g.lines g.said st) (sym ends.1) g.reads);
     }
 
-pub moved : (files : Option Files) (l0 l1 l2 t0 t1 : Option (List ℕ)) (old new : Reading) (kept : KeptData) (said : List LineData) (stop : StopData)
+pub moved : (files : Option Files) (l0 l1 l2 t0 t1 : Option (List ℕ)) (old new : Reading) (kept : KeptData)
+    (said : List LineData) (stop : StopData)
     (g : GoesOn files l0 l1 t0 t1 old kept) (m : Moves l1 l2 old new said stop) → Moved l0 l2 new (g.said ++ said) stop
 moved files l0 l1 l2 t0 t1 old new kept said stop g m =
     let over : IsTrue new.ended → IsAtEnd l2 = m.source_end g.source_end in

@@ -1,416 +1,714 @@
 -- What a session's statement over an engine is in the run.
-use Rattle.std.proofs.Common.{◌≡◌, ◌⊎◌, inl, inr, ℕ, ◌+◌, ◌-◌, ◌<◌, ◌≤◌, Bool, true, false, List, [], ◌∷◌, ◌++◌, length, get_or, Option, Some, None, option_map, IsTrue, IsSome, IfSome, refl, sym, ap, ap₂, ◌∙◌, subst, arith}
+use Rattle.std.proofs.Common.{◌≡◌, ◌⊎◌, inl, inr, ℕ, ◌+◌, ◌-◌, ◌<◌, ◌≤◌, Bool, true, false, ◌||◌, List, [], ◌∷◌}
+use Rattle.std.proofs.Common.{◌++◌, length, get_or, Option, Some, None, option_map, IsTrue, IsSome, IfSome, refl, sym}
+use Rattle.std.proofs.Common.{Result, Err, ap, ap₂, ◌∙◌, subst, append_assoc, arith}
 use Rattle.std.specs.Prelude.{set, if◌then◌else◌}
 use Rattle.std.specs.List.{AllByRecursion}
 use Rattle.std.proofs.lemmas.List.{set-get_or}
 use Rattle.ori_bytes.specs.declared.rid.Rid.{Rid}
 use Rattle.ori_bytes.specs.declared.causes.Causes.{Causes}
 use Rattle.ori_bytes.specs.declared.limits.TheConstants.{MAX_PAGES, MAX_POSITIONS, MAX_WEIGHT, MAX_FEED_BYTES}
-use Rattle.ori_spec.specs.Base.{BaseData, RecordData, ChangeData, TxData, EntryData, commit}
-use Rattle.ori_spec.specs.Apply.{fresh, apply_tx, IsFormed}
-use Rattle.ori_spec.specs.Weighing.{log_need}
-use Rattle.ori_spec.specs.Refusing.{refusal}
-use Rattle.ori_spec.specs.Statement.{StatementData, inserts, selects, updates, deletes_vertex, begins, commits, rolls_back}
-use Rattle.ori_spec.specs.Soundness.{IsSoundBase}
-use Rattle.ori_spec.specs.Keeping.{StateData, OpeningData, DecisionData, accepted, halted_at, feed_full, refused, pages_full, log_full, fault, device, busy, damaged, no_memory, counted, bytes_with, IsFull, IsAsked, IsGranted, AreFresh, Joins, Breaks, Decides}
-use Rattle.ori_spec.specs.Reply as replies
-use Rattle.ori_spec.specs.Reply.{RefusalData, ReplyData, is_fault, is_fault_refusal}
-use Rattle.ori_spec.specs.Views.{view_of, are_real}
-use Rattle.ori_spec.specs.Answer.{changes_by, PendingData, one, whole, MeaningData, answered, turned, pending, alone, ended, changed, meaning}
-use Rattle.ori_spec.specs.Run as runs
-use Rattle.ori_spec.specs.Run.{RunData, open_of, with_open, tx_pending, left_by, feed_cause, cause, reply_on, entry_on, Replies, TellsOrNot}
-use Rattle.ori_spec.proofs.Kept.{apply_sound}
+use Rattle.ori_volume.proofs.Known.{some_told}
+use Rattle.ori_spec_data.specs.Base.{BaseData, ChangeData, TxData, EntryData, commit}
+use Rattle.ori_spec_data.specs.Base.{AskedData, asks_commit, asks_define}
+use Rattle.ori_spec_data.specs.Apply.{fresh, apply, apply_tx, IsFormed}
+use Rattle.ori_spec_data.specs.Weighing.{log_need}
+use Rattle.ori_spec_data.specs.Refusing.{refusal}
+use Rattle.ori_spec_data.specs.Soundness.{IsSoundBase}
+use Rattle.ori_spec_data.specs.Keeping.{StateData, DecisionData, accepted, halted_at, feed_full, refused, pages_full}
+use Rattle.ori_spec_data.specs.Keeping.{log_full, fault, device, busy, damaged, no_memory, counted, bytes_with, IsFull}
+use Rattle.ori_spec_data.specs.Keeping.{IsAsked, IsGranted, AreFresh, left_after, Joins, Breaks}
+use Rattle.ori_spec_data.specs.Keeping.{DecidesCommit}
+use Rattle.ori_spec_data.specs.Keeping.{Decides}
+use Rattle.ori_spec_data.specs.Replies as replies
+use Rattle.ori_spec_data.specs.Replies.{RefusalData, ReplyData, is_fault, is_fault_refusal}
+use Rattle.ori_spec_data.specs.Views.{ViewData, view_of, are_real}
+use Rattle.ori_spec_data.proofs.Kept.{apply_sound}
+use Rattle.ori_spec_texts.specs.Statement.{StatementData, inserts, selects, updates, deletes_vertex, begins, commits}
+use Rattle.ori_spec_texts.specs.Statement.{rolls_back, IsStatement}
+use Rattle.ori_spec_texts.specs.Line.{statement}
+use Rattle.ori_spec_texts.specs.Reply.{to_session}
+use Rattle.ori_spec_runs.specs.Answer.{SessionData, closed, with_open, plan_of, plan_by, PendingData, one}
+use Rattle.ori_spec_runs.specs.Answer.{whole}
+use Rattle.ori_spec_runs.specs.Answer.{schema, asked_by, MeaningData, answered, turned, pending, alone, changed}
+use Rattle.ori_spec_runs.specs.Answer.{changes_by, view_in, made_in, begun, ended_by, ended, rolled_back, meaning}
+use Rattle.ori_spec_runs.specs.Run as runs
+use Rattle.ori_spec_runs.specs.Run.{RunData, session_of, with_session, left_by, feed_cause, cause, reply_on, entry_on}
+use Rattle.ori_spec_runs.specs.Run.{Replies, TellsOrNot, Step}
 use Rattle.ori_model.specs.declared.reply.Reply.{Reply}
 use Rattle.ori_model.specs.Replies.{reply_of}
-use Rattle.ori_rows.specs.Rows.{records_of, AreAt, base_with}
-use Rattle.ori_model.specs.declared.entry.Entry.{Entry}
-use Rattle.ori_model.specs.Data.{entry_of}
-use Rattle.ori_table.specs.Kept.{rows_of}
-use Rattle.ori_engine.specs.declared.kept.Kept.{Kept}
-use Rattle.ori_engine.specs.Crash.{doubts}
-use Rattle.ori_engine.specs.KeeperLaws as keeper_laws
-use Rattle.ori_engine.specs.States.{state_of}
-use Rattle.ori_session.specs.Commits.{reply_by, stays, left_open, AnswersOn}
-use Rattle.ori_session.specs.Runs.{IsAnswer, IsRefused, IsFinished, IsCommitted, Executes}
-use Rattle.ori_script.specs.Keeping.{KeptData, Keeps, StaysHalted, IsReplied, IsTold}
-use Rattle.ori_script.proofs.Causes.{full_feed, free_feed, by_halt, by_feed, by_refusal, by_log, by_none}
-use Rattle.ori_script.proofs.Counted.{IsInside, no_device, no_busy, no_damaged, only_memory}
-use Rattle.ori_script.proofs.Counted as counted_so
+use Rattle.ori_session.specs.Reads.{WhereReal, IsUnbuilt, IsReadFault}
+use Rattle.ori_session.specs.Commits.{reply_by, stays, left_open, IsAskable, AnswersOn, entry_by}
+use Rattle.ori_session.specs.Runs.{IsAnswer, Executes}
+use Rattle.ori_engine.specs.Openings.{IsKeptState}
+use Rattle.ori_script.specs.Keeping.{StoreData, KeptData, Keeps, HasFailed, IsStepped}
+use Rattle.ori_script.proofs.Causes.{full_feed, free_feed, IsFree, by_halt, by_feed, by_refusal, by_log, by_none}
+use Rattle.ori_script.proofs.Counted.{IsInside, no_device, no_busy, no_damaged, only_memory, fault_counted}
+use Rattle.ori_script.proofs.Counted.{faults_kept, faults_read}
+use Rattle.ori_script.proofs.Runs.{only}
 
--- ---- an engine
+-- ---- what is kept
 
-abbrev kept_as : StateData → List (Option TxData) → KeptData
-kept_as state current = record { state = state; current = current }
+module _ (earlier : List EntryData) (failed : List (ℕ × EntryData)) where
+  abbrev pub store_as : StateData → Causes → StoreData
+  store_as state causes = record { earlier = earlier; failed = failed; state = state; causes = causes }
 
--- what is known of an engine before a statement and after it: its base is that of rows in their places
-pub record IsEngine (rows : List (Option RecordData)) (old new : StateData) (causes_new : Causes) : Type 0 where
-  pub base : old.base ≡ Some (base_with rows)
-  pub in_use : old.in_use ≡ Some (length rows + 1)
-  pub front : (feed : List EntryData) → old.feed ≡ Some feed → old.front ≡ length feed
-  pub at : AreAt 0 rows
-  pub inside : IsInside causes_new
-  pub faultless : new.halted ≡ None → causes_new.fault ≡ 0
-  pub doubted : IsSome new.halted → IsSome new.doubt
+  abbrev pub kept_as : StateData → Causes → List SessionData → KeptData
+  kept_as state causes sessions = record { store = store_as state causes; sessions = sessions }
 
--- records in their places have real identifiers
-real_at : (p : ℕ) (rows : List (Option RecordData)) → AreAt p rows → are_real (records_of rows) ≡ true
-real_at p [] h = refl
-real_at p (None ∷ rows) h = real_at (p + 1) rows h
-real_at p (Some r ∷ rows) h = rw (h.0) (real_at (p + 1) rows h.1)
-
-some_of : {T : Type 0} (P : T → Type 0) (o : Option T) (x : T) → o ≡ Some x → IfSome o P → P x
-some_of P o x is h = subst (λ (a : Option _). IfSome a P) is h
-
--- ---- what sessions have open
-
--- nothing else than before
-set_kept : (cur next : List (Option TxData)) (i : ℕ) (left : Option TxData) → next ≡ set cur i left → left ≡ get_or cur i None → next ≡ cur
-set_kept cur next i left is same = is ∙ ap (λ (o : Option TxData). set cur i o) same ∙ set-get_or cur i None
-
--- the engine's state is as before, and what is open is this
-keeps_with : (old new : StateData) (cur next open_now : List (Option TxData)) (run : RunData) → new ≡ old → next ≡ open_now → Keeps (kept_as old cur) run → Keeps (kept_as new next) (record run { current = open_now })
-keeps_with old new cur next open_now run same is k =
-    subst (λ (s : StateData). Keeps (kept_as s next) (record run { current = open_now })) (sym same)
-    (record { sound = k.sound; base = k.base; history = k.history; halted = k.halted; doubtful = k.doubtful; room = k.room; current = is })
-
--- ---- one that is answered without a commit
-
-abbrev Done : RunData → ℕ → MeaningData → ReplyData → KeptData → Type 0
-Done run session m reply kept = (next : RunData) × Replies run session m reply next × Keeps kept next
-
-finish : (old new : StateData) (cur cur' : List (Option TxData)) (session : ℕ) (m : MeaningData) (reply : ReplyData) (left : Option TxData) (run : RunData) → new ≡ old → cur' ≡ set cur (session - 1) left
-    → IsAnswer m (get_or cur (session - 1) None) reply left → Keeps (kept_as old cur) run → Done run session m reply (kept_as new cur')
-finish old new cur cur' session (answered said) reply left run same is h k =
-    (run, (h.0, refl), keeps_with old new cur cur' run.current run same (set_kept cur cur' (session - 1) left is h.1 ∙ k.current) k)
-finish old new cur cur' session (turned said current) reply left run same is h k =
-    (with_open run session current, (h.0, refl), keeps_with old new cur cur' (set run.current (session - 1) current) run same (is ∙ ap₂ (λ (l : List (Option TxData)) (o : Option TxData). set l (session - 1) o) k.current h.1) k)
-finish old new cur cur' session (pending p) reply left run same is h k = absurd h
-
--- it never tells of a fault
-abbrev IsFine : MeaningData → Type 0
-IsFine (answered said) = is_fault said.told ≡ false
-IsFine (turned said current) = is_fault said.told ≡ false
-IsFine (pending p) = Unit {0}
-
-fine_alone : (cs : List ChangeData) → IsFine (alone cs)
-fine_alone [] = refl
-fine_alone (c ∷ cs) = tt
-
-fine_ended : (tx : TxData) (cs : List ChangeData) → IsFine (ended tx cs)
-fine_ended tx [] = refl
-fine_ended tx (c ∷ cs) = tt
-
-fine_changed : (records : List RecordData) (current : Option TxData) (s : StatementData) → IsFine (changed records current s)
-fine_changed records None s = fine_alone (changes_by records 0 s)
-fine_changed records (Some tx) s = refl
-
-fine_meaning : (records : List RecordData) (current : Option TxData) (s : StatementData) → IsFine (meaning records current s)
-fine_meaning records current (inserts name value) = fine_changed records current (inserts name value)
-fine_meaning records current (selects rid) = refl
-fine_meaning records current (updates rid name value) = fine_changed records current (updates rid name value)
-fine_meaning records current (deletes_vertex rid) = fine_changed records current (deletes_vertex rid)
-fine_meaning records None begins = refl
-fine_meaning records (Some tx) begins = refl
-fine_meaning records None commits = refl
-fine_meaning records (Some tx) commits = fine_ended tx tx.changes
-fine_meaning records None rolls_back = refl
-fine_meaning records (Some tx) rolls_back = refl
-
-fine_answer : (m : MeaningData) (old : Option TxData) (reply : ReplyData) (new : Option TxData) → IsFine m → IsAnswer m old reply new → is_fault reply.told ≡ false
-fine_answer (answered said) old reply new fine h = ap (λ (r : ReplyData). is_fault r.told) h.0 ∙ fine
-fine_answer (turned said current) old reply new fine h = ap (λ (r : ReplyData). is_fault r.told) h.0 ∙ fine
-fine_answer (pending p) old reply new fine h = absurd h
-
-not_told : {T : Type 0} (reply : ReplyData) → is_fault reply.told ≡ false → IsTrue (is_fault reply.told) → T
-not_told reply fine told = absurd (cc (fine, told))
-
--- ---- one that is decided by a commit
-
--- a session's transaction has ended with its commit
-left_is : (cur cur' : List (Option TxData)) (session : ℕ) (p : PendingData) (d : DecisionData) (left : Option TxData) (run : RunData) → stays d ≡ false → cur' ≡ set cur (session - 1) left
-    → left ≡ left_open (get_or cur (session - 1) None) p d → cur ≡ run.current → cur' ≡ (left_by run session p).current
-left_is cur cur' session (one tx) d left run goes is opens same = set_kept cur cur' (session - 1) left is opens ∙ same
-left_is cur cur' session (whole tx) d left run goes is opens same =
-    let none : left ≡ None = opens ∙ ap (λ (b : Bool). if b then get_or cur (session - 1) None else None) goes in
-    is ∙ ap₂ (λ (l : List (Option TxData)) (o : Option TxData). set l (session - 1) o) same none
-
--- or stays open
-left_stays : (cur cur' : List (Option TxData)) (session : ℕ) (p : PendingData) (d : DecisionData) (left : Option TxData) → stays d ≡ true → cur' ≡ set cur (session - 1) left
-    → left ≡ left_open (get_or cur (session - 1) None) p d → cur' ≡ cur
-left_stays cur cur' session (one tx) d left stay is opens = set_kept cur cur' (session - 1) left is opens
-left_stays cur cur' session (whole tx) d left stay is opens =
-    set_kept cur cur' (session - 1) left is (opens ∙ ap (λ (b : Bool). if b then get_or cur (session - 1) None else None) stay)
-
-keeps_left : (old : StateData) (cur cur' : List (Option TxData)) (session : ℕ) (p : PendingData) (run : RunData) → cur' ≡ (left_by run session p).current → Keeps (kept_as old cur) run → Keeps (kept_as old cur') (left_by run session p)
-keeps_left old cur cur' session (one tx) run is k = record { sound = k.sound; base = k.base; history = k.history; halted = k.halted; doubtful = k.doubtful; room = k.room; current = is }
-keeps_left old cur cur' session (whole tx) run is k = record { sound = k.sound; base = k.base; history = k.history; halted = k.halted; doubtful = k.doubtful; room = k.room; current = is }
-
-abbrev Decided : RunData → ℕ → PendingData → ReplyData → KeptData → Type 0
-Decided run session p reply kept = (next : RunData) × (runs.Decides run session p reply next ⊎ ((reply ≡ replies.refused replies.no_memory) × (next ≡ run))) × Keeps kept next
-
-module _ (rows : List (Option RecordData)) (old new : StateData) (causes_old causes_new : Causes) (cur cur' : List (Option TxData)) (session : ℕ) (p : PendingData) (reply : ReplyData) (left : Option TxData) (run : RunData)
-    (engine : IsEngine rows old new causes_new) (k : Keeps (kept_as old cur) run) where
-  front_is : old.front ≡ length run.history
-  front_is = engine.front run.history k.history
-
-  -- nothing stands against it so far
-  asked_feed : IsAsked old (tx_pending p) → feed_cause run.history (tx_pending p) ≡ None
-  asked_feed h =
-      let front = front_is in
-      free_feed run.history (tx_pending p) (omega (arith, front, h.entries)) (some_of (λ (feed : List EntryData). bytes_with feed (tx_pending p) ≤ MAX_FEED_BYTES) old.feed run.history k.history h.bytes)
-
-  going : IsAsked old (tx_pending p) → run.halted ≡ None
-  going h = sym k.halted ∙ h.running
-
-  -- it is refused, and the transaction has ended
-  refuse : (why : RefusalData) → cause run (tx_pending p) ≡ Some why → reply ≡ replies.refused why → new ≡ old → cur' ≡ (left_by run session p).current → Decided run session p reply (kept_as new cur')
-  refuse why is told same now =
-      let kept = keeps_left old cur cur' session p run now k in (
-        left_by run session p,
-        inl (subst (λ (c : Option RefusalData). runs.DecidesBy run session p c reply (left_by run session p)) (sym is) (told, refl)),
-        subst (λ (s : StateData). Keeps (kept_as s cur') (left_by run session p)) (sym same) kept,
-      )
-
-  -- all is as before
-  wants : reply ≡ replies.refused replies.no_memory → new ≡ old → cur' ≡ cur → Decided run session p reply (kept_as new cur')
-  wants told same now = (run, inr (told, refl), keeps_with old new cur cur' run.current run same (now ∙ k.current) k)
-
-  -- it joins the history
-  accept : (rids : List Rid) → IsFormed (tx_pending p) → IsGranted old (tx_pending p) → AreFresh old (tx_pending p) rids → Joins old session (tx_pending p) rids new → AnswersOn old p (accepted old.front rids) reply
-      → cur' ≡ (left_by run session p).current → Decided run session p reply (kept_as new cur')
-  accept rids formed granted are_fresh joins on_base now =
-      let tx = tx_pending p in
-      let asked = granted.allowed.asked in
-      let before = k.room asked.running in
-      let allowed : refusal run.base tx ≡ None = some_of (λ (base : BaseData). refusal base tx ≡ None) old.base run.base k.base granted.allowed.allowed in
-      let fits : log_need tx ≤ run.room = some_of (λ (n : ℕ). log_need tx ≤ n) old.room run.room before.0 granted.room in
-      let named : rids ≡ fresh run.base tx = some_of (λ (base : BaseData). rids ≡ fresh base tx) old.base run.base k.base are_fresh.1 in
-      let answers : reply ≡ reply_on (apply_tx run.base tx) rids p = some_of (λ (base : BaseData). IsSoundBase base → reply ≡ reply_on (apply_tx base tx) rids p) old.base run.base k.base on_base k.sound in
-      let kept = keeps_left old cur cur' session p run now k in
-      let next : RunData = record (left_by run session p) {
-        base = apply_tx run.base tx;
-        history = run.history ++ entry_on run.base session tx ∷ [];
-        room = run.room - (log_need tx - 1);
-      } in (
-        next,
-        inl (subst (λ (c : Option RefusalData). runs.DecidesBy run session p c reply next) (sym (by_none run tx (going asked) (asked_feed asked) allowed fits))
-            (inl (record { reply_is = answers ∙ ap (λ (ids : List Rid). reply_on (apply_tx run.base tx) ids p) named; new_is = refl }))),
-        record {
-          sound = apply_sound run.base tx k.sound formed allowed;
-          base = joins.base ∙ ap (λ (o : Option BaseData). option_map (λ b. apply_tx b tx) o) k.base;
-          history = joins.feed ∙ ap (λ (o : Option (List EntryData)). option_map (λ feed. feed ++ commit session tx rids ∷ []) o) k.history
-              ∙ ap (λ (ids : List Rid). Some (run.history ++ commit session tx ids ∷ [])) named;
-          halted = joins.halted ∙ kept.halted;
-          doubtful = ap (λ (d : Option EntryData). doubts (run.history ++ entry_on run.base session tx ∷ []) d) (joins.doubt ∙ before.1)
-              ∙ sym (ap (λ (d : Option EntryData). doubts (left_by run session p).history d) before.1) ∙ kept.doubtful;
-          room = λ _. (joins.room ∙ ap (λ (o : Option ℕ). option_map (λ n. n - (log_need tx - 1)) o) before.0, joins.doubt ∙ before.1);
-          current = now;
-        },
-      )
-
-  -- its write failed
-  fails_at : (at : ℕ) (rids : List Rid) → new ≡ record old { halted = new.halted; doubt = new.doubt } → IsGranted old (tx_pending p) → AreFresh old (tx_pending p) rids → new.halted ≡ Some at
-      → new.doubt ≡ Some (commit session (tx_pending p) rids) → reply ≡ replies.refused replies.fault → cur' ≡ (left_by run session p).current → Decided run session p reply (kept_as new cur')
-  fails_at at rids same granted are_fresh halted doubt told now =
-      let tx = tx_pending p in
-      let asked = granted.allowed.asked in
-      let before = k.room asked.running in
-      let allowed : refusal run.base tx ≡ None = some_of (λ (base : BaseData). refusal base tx ≡ None) old.base run.base k.base granted.allowed.allowed in
-      let fits : log_need tx ≤ run.room = some_of (λ (n : ℕ). log_need tx ≤ n) old.room run.room before.0 granted.room in
-      let named : rids ≡ fresh run.base tx = some_of (λ (base : BaseData). rids ≡ fresh base tx) old.base run.base k.base are_fresh.1 in
-      let kept = keeps_left old cur cur' session p run now k in
-      let past : (left_by run session p).history ≡ run.history = cc (sym kept.history ∙ k.history) in
-      let none_before : [] ≡ run.doubtful = sym (ap (λ (d : Option EntryData). doubts run.history d) before.1) ∙ k.doubtful in
-      let next : RunData = record (left_by run session p) {
-        doubtful = run.doubtful ++ (length run.history, entry_on run.base session tx) ∷ [];
-        halted = Some at;
-      } in (
-        next,
-        inl (subst (λ (c : Option RefusalData). runs.DecidesBy run session p c reply next) (sym (by_none run tx (going asked) (asked_feed asked) allowed fits))
-            (inr (record { reply_is = told; faults = at; new_is = refl }))),
-        record {
-          sound = kept.sound;
-          base = ap (λ (s : StateData). s.base) same ∙ kept.base;
-          history = ap (λ (s : StateData). s.feed) same ∙ kept.history;
-          halted = halted;
-          doubtful = ap (λ (d : Option EntryData). doubts (left_by run session p).history d) doubt
-              ∙ ap₂ (λ (h : List EntryData) (ids : List Rid). (length h, commit session tx ids) ∷ []) past named
-              ∙ ap (λ (l : List (ℕ × EntryData)). l ++ (length run.history, entry_on run.base session tx) ∷ []) none_before;
-          room = λ none. absurd (cc (none, halted));
-          current = now;
-        },
-      )
-
-  -- the entry is in doubt, since commits have ended
-  fails : IsGranted old (tx_pending p) → Breaks old session (tx_pending p) new → IsSome new.halted → reply ≡ replies.refused replies.fault → cur' ≡ (left_by run session p).current → Decided run session p reply (kept_as new cur')
-  fails granted breaks over told now = by new.halted refl breaks.doubt where
-    doubted : IsSome new.doubt
-    doubted = engine.doubted over
-
-    by : (halted : Option ℕ) → new.halted ≡ halted → (new.doubt ≡ old.doubt) ⊎ ((rids : List Rid) × AreFresh old (tx_pending p) rids × (new.doubt ≡ Some (commit session (tx_pending p) rids)) × IsSome new.halted)
-        → Decided run session p reply (kept_as new cur')
-    by None is doubt = absurd (cc (over, is))
-    by (Some at) is (inl same) = absurd (cc (doubted, same, (k.room granted.allowed.asked.running).1))
-    by (Some at) is (inr (rids, are_fresh, doubt, h)) = fails_at at rids breaks.same granted are_fresh is doubt told now
-
-  -- pages are never full
-  never_full : (n heavy : ℕ) → IfSome old.in_use (λ m. n ≡ m) → heavy ≤ MAX_WEIGHT → MAX_PAGES < n + heavy → ⊥
-  never_full n heavy used light full =
-      let n_is : n ≡ length rows + 1 = some_of (λ (m : ℕ). n ≡ m) old.in_use (length rows + 1) engine.in_use used in
-      let base_is : run.base ≡ base_with rows = cc (sym k.base ∙ engine.base) in
-      let each : AllByRecursion (λ m. m ≤ MAX_POSITIONS) (base_with rows).next = subst (λ (b : BaseData). AllByRecursion (λ m. m ≤ MAX_POSITIONS) b.next) base_is k.sound.next in
-      omega (arith, n_is, each.0, light, full)
-
-  decide : (d : DecisionData) → IsFormed (tx_pending p) → Decides old session (tx_pending p) d new → causes_new ≡ counted d causes_old → reply ≡ reply_by d p → AnswersOn old p d reply
-      → left ≡ left_open (get_or cur (session - 1) None) p d → cur' ≡ set cur (session - 1) left → Decided run session p reply (kept_as new cur')
-  decide (accepted place rids) formed h causes told on_base left_open_is is =
-      accept rids formed h.0 h.2 h.3 on_base (left_is cur cur' session p (accepted place rids) left run refl is left_open_is k.current)
-  decide (halted_at at) formed h causes told on_base left_open_is is =
-      refuse (replies.halted at) (by_halt run (tx_pending p) at (sym k.halted ∙ h.0)) told h.1 (left_is cur cur' session p (halted_at at) left run refl is left_open_is k.current)
-  decide (feed_full entries bytes) formed h causes told on_base left_open_is is =
-      let entries_are : entries ≡ length run.history = h.1 ∙ front_is in
-      let bytes_are : bytes ≡ bytes_with run.history (tx_pending p) = some_of (λ (feed : List EntryData). bytes ≡ bytes_with feed (tx_pending p)) old.feed run.history k.history h.3 in
-      let full : IsFull (length run.history) (bytes_with run.history (tx_pending p)) = subst (λ (n : ℕ). IsFull n (bytes_with run.history (tx_pending p))) entries_are (subst (λ (n : ℕ). IsFull entries n) bytes_are h.2) in
-      refuse (replies.feed_full (length run.history) (bytes_with run.history (tx_pending p))) (by_feed run (tx_pending p) _ (sym k.halted ∙ h.0) (full_feed run.history (tx_pending p) full))
-      (told ∙ ap₂ (λ (n m : ℕ). replies.refused (replies.feed_full n m)) entries_are bytes_are) h.4 (left_is cur cur' session p (feed_full entries bytes) left run refl is left_open_is k.current)
-  decide (refused why) formed h causes told on_base left_open_is is =
-      let refuses : refusal run.base (tx_pending p) ≡ Some why = some_of (λ (base : BaseData). refusal base (tx_pending p) ≡ Some why) old.base run.base k.base h.1 in
-      refuse (replies.by_base why) (by_refusal run (tx_pending p) why (going h.0) (asked_feed h.0) refuses) told h.3 (left_is cur cur' session p (refused why) left run refl is left_open_is k.current)
-  decide (pages_full n heavy) formed h causes told on_base left_open_is is = absurd (never_full n heavy h.2 h.3 h.4)
-  decide (log_full need room) formed h causes told on_base left_open_is is =
-      let asked = h.0.asked in
-      let room_is : room ≡ run.room = some_of (λ (n : ℕ). room ≡ n) old.room run.room (k.room asked.running).0 h.2 in
-      let allowed : refusal run.base (tx_pending p) ≡ None = some_of (λ (base : BaseData). refusal base (tx_pending p) ≡ None) old.base run.base k.base h.0.allowed in
-      refuse (replies.log_full (log_need (tx_pending p)) run.room) (by_log run (tx_pending p) (going asked) (asked_feed asked) allowed (omega (arith, h.1, h.3, room_is)))
-      (told ∙ ap₂ (λ (n m : ℕ). replies.refused (replies.log_full n m)) h.1 room_is) h.4 (left_is cur cur' session p (log_full need room) left run refl is left_open_is k.current)
-  decide fault formed h causes told on_base left_open_is is =
-      fails h.0 h.1 (counted_so.ended causes_old causes_new new.halted engine.faultless causes) told (left_is cur cur' session p fault left run refl is left_open_is k.current)
-  decide device formed h causes told on_base left_open_is is = absurd (no_device causes_old causes_new engine.inside causes)
-  decide (busy turn) formed h causes told on_base left_open_is is = absurd (no_busy causes_old causes_new engine.inside causes)
-  decide (damaged page) formed h causes told on_base left_open_is is = absurd (no_damaged causes_old causes_new engine.inside causes)
-  decide no_memory formed h causes told on_base left_open_is is = wants told h (left_stays cur cur' session p no_memory left refl is left_open_is)
-
--- ---- a statement
-
-module _ (rows : List (Option RecordData)) (old new : StateData) (causes_old causes_new : Causes) (text : List ℕ) (cur cur' : List (Option TxData)) (session : ℕ) (left : Option TxData)
-    (engine : IsEngine rows old new causes_new) (is : cur' ≡ set cur (session - 1) left) where
-  -- what a statement means is the same in the run
-  means : (run : RunData) (s : StatementData) → Keeps (kept_as old cur) run → meaning (records_of rows) (get_or cur (session - 1) None) s ≡ meaning run.base.stored (open_of run session) s
-  means run s k =
-      let base_is : base_with rows ≡ run.base = cc (sym engine.base ∙ k.base) in
-      ap₂ (λ (records : List RecordData) (current : Option TxData). meaning records current s) (ap (λ (b : BaseData). b.stored) base_is) (ap (λ (l : List (Option TxData)). get_or l (session - 1) None) k.current)
-
-  real : IsTrue (are_real (records_of rows))
-  real = real_at 0 rows engine.at
-
-  refused_so : (reply : ReplyData) (run : RunData) → IsRefused old new causes_old causes_new (Some (view_of (base_with rows))) text (get_or cur (session - 1) None) reply left → Keeps (kept_as old cur) run
-      → IsReplied run session text reply (kept_as new cur')
-  refused_so reply run h k = record {
-    next = run;
-    tells = elim h.why [
-      | inl unbuilt ↦ inl (inr (unbuilt.0.none, unbuilt.0.reply_is, refl))
-      | inr failed ↦ inr (failed.reply_is ∙ ap replies.refused (only_memory causes_old causes_new engine.inside failed.fault failed.counted), refl)
-    ];
-    keeps = keeps_with old new cur cur' run.current run h.state (set_kept cur cur' (session - 1) left is h.kept ∙ k.current) k;
+  -- the engine's state is as before, and this is kept of the sessions
+  keeps_with : (old new : StateData) (causes_old causes_new : Causes) (cur next now : List SessionData) (run : RunData)
+      → Keeps (kept_as old causes_old cur) run → new ≡ old → next ≡ now
+      → Keeps (kept_as new causes_new next) (record run { sessions = now })
+  keeps_with old new causes_old causes_new cur next now run k same is = record {
+    sound = k.sound;
+    base = ap (λ (s : StateData). s.base) same ∙ k.base;
+    feed = ap (λ (s : StateData). s.feed) same ∙ k.feed;
+    history = k.history;
+    failed = k.failed;
+    halted = ap (λ (s : StateData). s.halted) same ∙ k.halted;
+    doubt = ap (λ (s : StateData). s.doubt) same ∙ k.doubt;
+    limit = ap (λ (s : StateData). s.limit) same ∙ k.limit;
+    sessions = is;
   }
 
-  finished_so : (reply : ReplyData) (run : RunData) → IsFinished old new causes_old causes_new (Some (view_of (base_with rows))) text (get_or cur (session - 1) None) reply left → Keeps (kept_as old cur) run
-      → IsReplied run session text reply (kept_as new cur')
-  finished_so reply run h k =
-      let done = finish old new cur cur' session (meaning (records_of rows) (get_or cur (session - 1) None) h.statement) reply left run h.state is (h.answer real) k in
-      record {
-        next = done.0;
-        tells = inl (inl (h.statement, h.is, subst (λ (m : MeaningData). Replies run session m reply done.0) (means run h.statement k) done.1));
-        keeps = done.2;
-      }
+  -- a session's transaction has ended, where what is pending was one
+  keeps_left : (old : StateData) (causes_old causes_new : Causes) (cur next : List SessionData) (run : RunData)
+      (session : ℕ) (p : PendingData) → Keeps (kept_as old causes_old cur) run
+      → next ≡ (left_by run session p).sessions → Keeps (kept_as old causes_new next) (left_by run session p)
+  keeps_left old causes_old causes_new cur next run session (one plan) k is =
+      keeps_with old old causes_old causes_new cur next _ run k refl is
+  keeps_left old causes_old causes_new cur next run session (whole tx) k is =
+      keeps_with old old causes_old causes_new cur next _ run k refl is
+  keeps_left old causes_old causes_new cur next run session (schema definition) k is =
+      keeps_with old old causes_old causes_new cur next _ run k refl is
 
-  committed_so : (reply : Reply) (run : RunData) → IsCommitted session old new causes_old causes_new (Some (view_of (base_with rows))) text (get_or cur (session - 1) None) reply left → Keeps (kept_as old cur) run
-      → IsReplied run session text (reply_of reply) (kept_as new cur')
-  committed_so reply run h k =
-      let by = h.decided in
-      let done = decide rows old new causes_old causes_new cur cur' session h.left (reply_of reply) left run engine k by.decision by.formed by.decides by.causes by.reply_is by.on_base by.left_is is in
-      record {
-        next = done.0;
-        tells = elim done.1 [
-          | inl decides ↦ inl (inl (h.statement, h.is, subst (λ (m : MeaningData). Replies run session m (reply_of reply) done.0) (sym (h.meant real) ∙ means run h.statement k) decides))
+-- nothing else is kept of a session than before
+set_kept : (cur next : List SessionData) (i : ℕ) (left : SessionData) → next ≡ set cur i left
+    → left ≡ get_or cur i closed → next ≡ cur
+set_kept cur next i left is same = is ∙ ap (λ (s : SessionData). set cur i s) same ∙ set-get_or cur i closed
+
+-- ---- a session's place
+
+module _ (cur next : List SessionData) (session : ℕ) (d : DecisionData) (left : SessionData)
+    (is : next ≡ set cur (session - 1) left) where
+  -- a session's transaction has ended with its commit
+  left_is : (p : PendingData) (run : RunData) → stays d ≡ false → left ≡ left_open (get_or cur (session - 1) closed) p d
+      → cur ≡ run.sessions → next ≡ (left_by run session p).sessions
+  left_is (one plan) run goes opens same = set_kept cur next (session - 1) left is opens ∙ same
+  left_is (whole tx) run goes opens same =
+      let own = get_or cur (session - 1) closed in
+      let over : left ≡ with_open own None =
+      opens ∙ ap (λ (b : Bool). if b then own else with_open own None) goes in
+      is ∙ ap (λ (s : SessionData). set cur (session - 1) s) over
+      ∙ ap (λ (l : List SessionData). set l (session - 1) (with_open (get_or l (session - 1) closed) None)) same
+  left_is (schema definition) run goes opens same = set_kept cur next (session - 1) left is opens ∙ same
+
+  -- or stays open
+  left_stays : (p : PendingData) → stays d ≡ true → left ≡ left_open (get_or cur (session - 1) closed) p d → next ≡ cur
+  left_stays (one plan) stay opens = set_kept cur next (session - 1) left is opens
+  left_stays (whole tx) stay opens =
+      let own = get_or cur (session - 1) closed in
+      set_kept cur next (session - 1) left is
+      (opens ∙ ap (λ (b : Bool). if b then own else with_open own None) stay)
+  left_stays (schema definition) stay opens = set_kept cur next (session - 1) left is opens
+
+-- ---- what an engine shows
+
+some_is : {T : Type 0} {x y : T} → Some x ≡ Some y → x ≡ y
+some_is e = cc
+
+-- it tells a base, whose records have real identifiers
+module _ (state : StateData) (causes : Causes) (view : Option ViewData) (known : IsKeptState state causes)
+    (shows : view ≡ option_map view_of state.base) where
+  in_base : (P : ViewData → Type 0) → WhereReal view P → P (view_of known.base)
+  in_base P h =
+      let is : view ≡ Some (view_of known.base) = shows
+      ∙ ap (λ (o : Option BaseData). option_map view_of o) known.base_is in
+      some_told (λ (s : ViewData). IsTrue (are_real s.records) → P s) view (view_of known.base) is h known.real
+
+-- commits never find the pages full
+never_full : (state : StateData) (causes : Causes) (base : BaseData) (n heavy : ℕ) → IsKeptState state causes
+    → state.base ≡ Some base → IsSoundBase base → IfSome state.in_use (λ m. n ≡ m) → heavy ≤ MAX_WEIGHT
+    → MAX_PAGES < n + heavy → ⊥
+never_full state causes base n heavy known is sound used light full =
+    let n_is = some_told (λ (m : ℕ). n ≡ m) state.in_use (get_or known.base.next 0 0 + 1) known.in_use_is used in
+    let same : known.base ≡ base = some_is (sym known.base_is ∙ is) in
+    let next = ap (λ (b : BaseData). get_or b.next 0 0) same in
+    omega (arith, n_is, next, first_next base.next sound.next, light, full)
+  where
+    first_next : (next : List ℕ) → AllByRecursion (λ m. m ≤ MAX_POSITIONS) next → get_or next 0 0 ≤ MAX_POSITIONS
+    first_next [] h = omega arith
+    first_next (m ∷ ms) h = h.0
+
+-- ---- what is decided by a commit
+
+module _ (earlier : List EntryData) (failed : List (ℕ × EntryData)) (view : Option ViewData) (old new : StateData)
+    (causes_old causes_new : Causes) (cur cur' : List SessionData) (session : ℕ) (reply : ReplyData)
+    (left : SessionData)
+    (known : IsKeptState old causes_old) (shows : view ≡ option_map view_of old.base) (inside : IsInside causes_new)
+    (is : cur' ≡ set cur (session - 1) left) (run : RunData)
+    (k : Keeps (kept_as earlier failed old causes_old cur) run) where
+  abbrev After : KeptData
+  After = kept_as earlier failed new causes_new cur'
+
+  abbrev Decided : PendingData → AskedData → Type 0
+  Decided p asked = (next : RunData)
+      × (runs.DecidesAsked run session p asked reply next
+      ⊎ ((reply ≡ replies.refused replies.no_memory) × (next ≡ run)))
+      × Keeps After next
+
+  front_is : old.front ≡ length run.feed
+  front_is = known.front_is ∙ ap (λ (feed : List EntryData). length feed) (some_is (sym known.feed_is ∙ k.feed))
+
+  -- all is as before
+  wants : (p : PendingData) (asked : AskedData) → reply ≡ replies.refused replies.no_memory → new ≡ old → cur' ≡ cur
+      → Decided p asked
+  wants p asked told same now = (
+    run,
+    inr (told, refl),
+    keeps_with earlier failed old new causes_old causes_new cur cur' run.sessions run k same
+        (now ∙ k.sessions),
+  )
+
+  module _ (p : PendingData) (tx : TxData) (formed : IsFormed tx) where
+    -- nothing stands against it so far
+    free : IsAsked old tx → IsFree run tx
+    free h =
+        let front = front_is in
+        let bytes = some_told (λ (feed : List EntryData). bytes_with feed tx ≤ MAX_FEED_BYTES) old.feed run.feed k.feed
+        h.bytes in
+        record {
+          going = sym k.halted ∙ h.running;
+          feed = free_feed run.feed tx (omega (arith, front, h.entries)) bytes;
+        }
+
+    allowed : IfSome old.base (λ base. refusal base tx ≡ None) → refusal run.base tx ≡ None
+    allowed h = some_told (λ (base : BaseData). refusal base tx ≡ None) old.base run.base k.base h
+
+    -- it is refused, and the transaction has ended
+    refuse : (why : RefusalData) → cause run tx ≡ Some why → reply ≡ replies.refused why → new ≡ old
+        → cur' ≡ (left_by run session p).sessions → Decided p (asks_commit tx)
+    refuse why caused told same now =
+        let kept = keeps_left earlier failed old causes_old causes_new cur cur' run session p k now in (
+          left_by run session p,
+          inl (subst (λ (c : Option RefusalData). runs.DecidesBy run session p tx c reply (left_by run session p))
+              (sym caused) (told, refl)),
+          subst (λ (s : StateData). Keeps (kept_as earlier failed s causes_new cur') (left_by run session p)) (sym same)
+              kept,
+        )
+
+    -- it joins the history
+    accept : (rids : List Rid) → IsGranted old tx → AreFresh old tx rids → Joins old (commit session tx rids) new
+        → IfSome old.base (λ base. IsSoundBase base → reply ≡ reply_on (apply_tx base tx) rids p)
+        → cur' ≡ (left_by run session p).sessions → Decided p (asks_commit tx)
+    accept rids granted are_fresh joins on_base now =
+        let unrefused = allowed granted.allowed.allowed in
+        let fits : IfSome run.limit (λ n. log_need tx ≤ n) =
+        subst (λ (o : Option ℕ). IfSome o (λ n. log_need tx ≤ n)) k.limit granted.room in
+        let named : rids ≡ fresh run.base tx =
+        some_told (λ (base : BaseData). rids ≡ fresh base tx) old.base run.base k.base are_fresh.1 in
+        let answers : reply ≡ reply_on (apply_tx run.base tx) rids p =
+        some_told (λ (base : BaseData). IsSoundBase base → reply ≡ reply_on (apply_tx base tx) rids p) old.base run.base
+        k.base on_base k.sound in
+        let kept = keeps_left earlier failed old causes_old causes_new cur cur' run session p k now in
+        let entry : EntryData = entry_on run.base session tx in
+        let made : commit session tx rids ≡ entry = ap (λ (ids : List Rid). commit session tx ids) named in
+        let next : RunData = record (left_by run session p) {
+          base = apply run.base entry;
+          history = run.history ++ entry ∷ [];
+          feed = run.feed ++ entry ∷ [];
+          limit = option_map (left_after entry) run.limit;
+        } in (
+          next,
+          inl (subst (λ (c : Option RefusalData). runs.DecidesBy run session p tx c reply next)
+              (sym (by_none run tx (free granted.allowed.asked) unrefused fits))
+              (inl (record {
+                reply_is = answers ∙ ap (λ (ids : List Rid). reply_on (apply_tx run.base tx) ids p) named;
+                new_is = refl;
+              }))),
+          record {
+            sound = apply_sound run.base tx k.sound formed unrefused;
+            base = joins.base
+                ∙ ap (λ (o : Option BaseData). option_map (λ b. apply b (commit session tx rids)) o) k.base;
+            feed = joins.feed
+                ∙ ap (λ (o : Option (List EntryData)). option_map (λ feed. feed ++ commit session tx rids ∷ []) o)
+                k.feed
+                ∙ ap (λ (e : EntryData). Some (run.feed ++ e ∷ [])) made;
+            history = ap (λ (h : List EntryData). h ++ entry ∷ []) k.history
+                ∙ append_assoc earlier run.feed (entry ∷ []);
+            failed = kept.failed;
+            halted = joins.halted ∙ kept.halted;
+            doubt = joins.doubt ∙ kept.doubt;
+            limit = joins.limit ∙ ap₂ (λ (e : EntryData) (o : Option ℕ). option_map (left_after e) o) made k.limit;
+            sessions = now;
+          },
+        )
+
+    -- its write failed
+    fails : IsGranted old tx → Breaks old session tx new → reply ≡ replies.refused replies.fault
+        → cur' ≡ (left_by run session p).sessions → Decided p (asks_commit tx)
+    fails granted breaks told now =
+        let unrefused = allowed granted.allowed.allowed in
+        let fits : IfSome run.limit (λ n. log_need tx ≤ n) =
+        subst (λ (o : Option ℕ). IfSome o (λ n. log_need tx ≤ n)) k.limit granted.room in
+        let entry : EntryData = entry_on run.base session tx in
+        let kept = keeps_left earlier failed old causes_old causes_new cur cur' run session p k now in
+        let same = breaks.same in
+        let next : RunData = record (left_by run session p) { halted = new.halted; doubt = new.doubt } in
+        let doubt : (new.doubt ≡ run.doubt) ⊎ ((new.doubt ≡ Some entry) × IsSome new.halted) =
+        elim breaks.doubt [
+          | inl still ↦ inl (still ∙ k.doubt)
+          | inr own ↦ inr (
+            own.2 ∙ ap (λ (ids : List Rid). Some (commit session tx ids))
+                (some_told (λ (base : BaseData). own.0 ≡ fresh base tx) old.base run.base k.base own.1.1),
+            own.3,
+          )
+        ] in (
+          next,
+          inl (subst (λ (c : Option RefusalData). runs.DecidesBy run session p tx c reply next)
+              (sym (by_none run tx (free granted.allowed.asked) unrefused fits))
+              (inr (record {
+                reply_is = told;
+                halted_by = new.halted;
+                left_open = new.doubt;
+                new_is = refl;
+                doubt_is = doubt;
+              }))),
+          record {
+            sound = kept.sound;
+            base = ap (λ (s : StateData). s.base) same ∙ kept.base;
+            feed = ap (λ (s : StateData). s.feed) same ∙ kept.feed;
+            history = kept.history;
+            failed = kept.failed;
+            halted = refl;
+            doubt = refl;
+            limit = ap (λ (s : StateData). s.limit) same ∙ kept.limit;
+            sessions = now;
+          },
+        )
+
+    decide : (d : DecisionData) → DecidesCommit old session tx d new → reply ≡ reply_by d p
+        → causes_new ≡ counted d causes_old
+        → ((place : ℕ) (rids : List Rid) → d ≡ accepted place rids
+        → IfSome old.base (λ base. IsSoundBase base → reply ≡ reply_on (apply_tx base tx) rids p))
+        → left ≡ left_open (get_or cur (session - 1) closed) p d → Decided p (asks_commit tx)
+    decide (accepted place rids) h told causes on_base opens =
+        accept rids h.0 h.2 h.3 (on_base place rids refl)
+        (left_is cur cur' session (accepted place rids) left is p run refl opens k.sessions)
+    decide (halted_at at) h told causes on_base opens =
+        refuse (replies.halted at) (by_halt run tx at (sym k.halted ∙ h.0)) told h.1
+        (left_is cur cur' session (halted_at at) left is p run refl opens k.sessions)
+    decide (feed_full entries bytes) h told causes on_base opens =
+        let entries_are : entries ≡ length run.feed = h.1 ∙ front_is in
+        let bytes_are : bytes ≡ bytes_with run.feed tx =
+        some_told (λ (feed : List EntryData). bytes ≡ bytes_with feed tx) old.feed run.feed k.feed h.3 in
+        let full : IsFull (length run.feed) (bytes_with run.feed tx) =
+        subst (λ (n : ℕ). IsFull n (bytes_with run.feed tx)) entries_are
+        (subst (λ (n : ℕ). IsFull entries n) bytes_are h.2) in
+        refuse (replies.feed_full (length run.feed) (bytes_with run.feed tx))
+        (by_feed run tx _ (sym k.halted ∙ h.0) (full_feed run.feed tx full))
+        (told ∙ ap₂ (λ (n m : ℕ). replies.refused (replies.feed_full n m)) entries_are bytes_are) h.4
+        (left_is cur cur' session (feed_full entries bytes) left is p run refl opens k.sessions)
+    decide (refused why) h told causes on_base opens =
+        let refuses = some_told (λ (base : BaseData). refusal base tx ≡ Some why) old.base run.base k.base h.1 in
+        refuse (replies.by_base why) (by_refusal run tx why (free h.0) refuses) told h.3
+        (left_is cur cur' session (refused why) left is p run refl opens k.sessions)
+    decide (pages_full n heavy) h told causes on_base opens =
+        absurd (never_full old causes_old run.base n heavy known k.base k.sound h.2 h.3 h.4)
+    decide (log_full need room) h told causes on_base opens =
+        let limited : run.limit ≡ Some room =
+        sym k.limit ∙ some_told (λ (base : BaseData). old.limit ≡ Some room) old.base run.base k.base h.2 in
+        refuse (replies.log_full (log_need tx) room)
+        (by_log run tx room (free h.0.asked) (allowed h.0.allowed) limited (omega (arith, h.1, h.4)))
+        (told ∙ ap (λ (n : ℕ). replies.refused (replies.log_full n room)) h.1) h.5
+        (left_is cur cur' session (log_full need room) left is p run refl opens k.sessions)
+    decide fault h told causes on_base opens =
+        fails h.0 h.1 told (left_is cur cur' session fault left is p run refl opens k.sessions)
+    decide device h told causes on_base opens = absurd (no_device causes_old causes_new inside causes)
+    decide (busy turn) h told causes on_base opens = absurd (no_busy causes_old causes_new inside causes)
+    decide (damaged page) h told causes on_base opens = absurd (no_damaged causes_old causes_new inside causes)
+    decide no_memory h told causes on_base opens =
+        wants p (asks_commit tx) told h (left_stays cur cur' session no_memory left is p refl opens)
+
+  decide_asked : (p : PendingData) (asked : AskedData) (d : DecisionData) → asked_by p ≡ asked → IsAskable asked
+      → Decides old session asked d new → reply ≡ reply_by d p → causes_new ≡ counted d causes_old
+      → AnswersOn old session p d reply → left ≡ left_open (get_or cur (session - 1) closed) p d → Decided p asked
+  decide_asked p (asks_commit tx) d asks formed h told causes on_base opens =
+      decide p tx formed d h told causes
+      (λ place rids same. subst (λ (a : AskedData). IfSome old.base (λ base. IsSoundBase base
+      → reply ≡ reply_on (apply base (entry_by session a rids)) rids p)) asks
+      (subst (λ (e : DecisionData). AnswersOn old session p e reply) same on_base))
+      opens
+  decide_asked p (asks_define definition) d asks formed h told causes on_base opens = absurd h
+
+  -- ---- a statement
+
+  -- a fact of what the keeper shows holds of the run's base
+  in_run : (P : ViewData → Type 0) → WhereReal view P → P (view_of run.base)
+  in_run P h =
+      subst (λ (b : BaseData). P (view_of b)) (some_is (sym known.base_is ∙ k.base))
+      (in_base old causes_old view known shows P h)
+
+  means : (s : StatementData) → meaning (view_of run.base) (get_or cur (session - 1) closed) s
+      ≡ meaning (view_of run.base) (session_of run session) s
+  means s =
+      ap (λ (l : List SessionData). meaning (view_of run.base) (get_or l (session - 1) closed) s) k.sessions
+
+  finish : (m : MeaningData) → new ≡ old → IsAnswer m (get_or cur (session - 1) closed) reply left
+      → (next : RunData) × Replies run session m reply next × Keeps After next
+  finish (answered said) same h = (
+    run,
+    (h.0, refl),
+    keeps_with earlier failed old new causes_old causes_new cur cur' run.sessions run k same
+        (set_kept cur cur' (session - 1) left is h.1 ∙ k.sessions),
+  )
+  finish (turned said kept) same h = (
+    with_session run session kept,
+    (h.0, refl),
+    keeps_with earlier failed old new causes_old causes_new cur cur'
+        (set run.sessions (session - 1) kept) run k same
+        (is ∙ ap₂ (λ (l : List SessionData) (s : SessionData). set l (session - 1) s) k.sessions h.1),
+  )
+  finish (pending p) same h = absurd h
+
+  abbrev Told : List ℕ → Type 0
+  Told text = (next : RunData) × TellsOrNot run session text reply next × Keeps After next
+
+  refused_so : (text : List ℕ) (why : (IsUnbuilt text reply × (causes_new ≡ causes_old))
+      ⊎ IsReadFault view causes_old causes_new reply) → left ≡ get_or cur (session - 1) closed → new ≡ old → Told text
+  refused_so text why kept same = (
+    run,
+    elim why [
+      | inl unbuilt ↦ inl (inr (unbuilt.0.none, unbuilt.0.reply_is, refl))
+      | inr wrong ↦ inr (
+        wrong.reply_is ∙ ap replies.refused (only_memory causes_old causes_new inside wrong.fault wrong.counted),
+        refl,
+      )
+    ],
+    keeps_with earlier failed old new causes_old causes_new cur cur' run.sessions run k same
+        (set_kept cur cur' (session - 1) left is kept ∙ k.sessions),
+  )
+
+  finished_so : (text : List ℕ) (s : StatementData) → IsStatement text s
+      → WhereReal view (λ shown. IsAnswer (meaning shown (get_or cur (session - 1) closed) s)
+      (get_or cur (session - 1) closed) reply left)
+      → new ≡ old → Told text
+  finished_so text s says answer same =
+      let own = get_or cur (session - 1) closed in
+      let done = finish (meaning (view_of run.base) own s) same
+      (in_run (λ shown. IsAnswer (meaning shown own s) own reply left) answer) in (
+        done.0,
+        inl (inl (s, says, subst (λ (m : MeaningData). Replies run session m reply done.0) (means s) done.1)),
+        done.2,
+      )
+
+  committed_so : (text : List ℕ) (s : StatementData) (p : PendingData) → IsStatement text s
+      → WhereReal view (λ shown. meaning shown (get_or cur (session - 1) closed) s ≡ pending p)
+      → Decided p (asked_by p) → Told text
+  committed_so text s p says meant done =
+      let own = get_or cur (session - 1) closed in
+      let is_pending = sym (in_run (λ shown. meaning shown own s ≡ pending p) meant) ∙ means s in (
+        done.0,
+        elim done.1 [
+          | inl decides ↦ inl (inl (
+            s,
+            says,
+            subst (λ (m : MeaningData). Replies run session m reply done.0) is_pending decides,
+          ))
           | inr wanting ↦ inr wanting
-        ];
-        keeps = done.2;
-      }
+        ],
+        done.2,
+      )
 
-  -- ---- faults
+-- ---- faults
 
-  no_fault : {T : Type 0} (reply : ReplyData) (why : RefusalData) → reply ≡ replies.refused why → is_fault_refusal why ≡ false → IsTrue (is_fault reply.told) → T
-  no_fault reply why told fine = not_told reply (ap (λ (r : ReplyData). is_fault r.told) told ∙ fine)
+not_told : {T : Type 0} (reply : ReplyData) (why : RefusalData) → reply ≡ replies.refused why
+    → is_fault_refusal why ≡ false → IsTrue (is_fault reply.told) → T
+not_told reply why is fine told = absurd (cc (ap (λ (r : ReplyData). is_fault r.told) is ∙ fine, told))
 
-  refused_fine : (reply : ReplyData) → IsRefused old new causes_old causes_new (Some (view_of (base_with rows))) text (get_or cur (session - 1) None) reply left → IsTrue (is_fault reply.told) → IsSome new.halted
-  refused_fine reply h = elim h.why [
-    | inl unbuilt ↦ no_fault reply replies.unbuilt unbuilt.0.reply_is refl
-    | inr failed ↦ no_fault reply replies.no_memory (failed.reply_is ∙ ap replies.refused (only_memory causes_old causes_new engine.inside failed.fault failed.counted)) refl
-  ]
+-- a meaning never tells of a fault
+abbrev IsFine : MeaningData → Type 0
+IsFine (answered said) = is_fault said.told ≡ false
+IsFine (turned said kept) = is_fault said.told ≡ false
+IsFine (pending p) = Unit {0}
 
-  finished_fine : (reply : ReplyData) → IsFinished old new causes_old causes_new (Some (view_of (base_with rows))) text (get_or cur (session - 1) None) reply left → IsTrue (is_fault reply.told) → IsSome new.halted
-  finished_fine reply h = not_told reply (fine_answer _ _ reply left (fine_meaning (records_of rows) (get_or cur (session - 1) None) h.statement) (h.answer real))
+module _ (view : ViewData) (own : SessionData) where
+  fine_alone : (cs : List ChangeData) → IsFine (alone (plan_of cs))
+  fine_alone [] = refl
+  fine_alone (c ∷ cs) = tt
 
-  decided_fine : (p : PendingData) (d : DecisionData) (reply : ReplyData) → Decides old session (tx_pending p) d new → causes_new ≡ counted d causes_old → reply ≡ reply_by d p → IsTrue (is_fault reply.told) → IsSome new.halted
-  decided_fine (one tx) (accepted place rids) reply h causes told = not_told reply (ap (λ (r : ReplyData). is_fault r.told) told)
-  decided_fine (whole tx) (accepted place rids) reply h causes told = not_told reply (ap (λ (r : ReplyData). is_fault r.told) told)
-  decided_fine p (halted_at at) reply h causes told = λ _. subst (λ (s : StateData). IsSome s.halted) (sym h.1) (subst (λ (o : Option ℕ). IsSome o) (sym h.0) refl)
-  decided_fine p (feed_full entries bytes) reply h causes told = no_fault reply (replies.feed_full entries bytes) told refl
-  decided_fine p (refused why) reply h causes told = no_fault reply (replies.by_base why) told refl
-  decided_fine p (pages_full n heavy) reply h causes told = no_fault reply (replies.pages_full n heavy) told refl
-  decided_fine p (log_full need room) reply h causes told = no_fault reply (replies.log_full need room) told refl
-  decided_fine p fault reply h causes told = λ _. counted_so.ended causes_old causes_new new.halted engine.faultless causes
-  decided_fine p device reply h causes told = absurd (no_device causes_old causes_new engine.inside causes)
-  decided_fine p (busy turn) reply h causes told = absurd (no_busy causes_old causes_new engine.inside causes)
-  decided_fine p (damaged page) reply h causes told = absurd (no_damaged causes_old causes_new engine.inside causes)
-  decided_fine p no_memory reply h causes told = no_fault reply replies.no_memory told refl
+  fine_ended : (tx : TxData) (cs : List ChangeData) → IsFine (ended_by own tx cs)
+  fine_ended tx [] = refl
+  fine_ended tx (c ∷ cs) = tt
 
-  -- ---- what stays
+  fine_changed : (current : Option TxData) (s : StatementData)
+      → IsFine (changed own current (plan_by (view_in view current) (made_in current) s))
+  fine_changed None s = fine_alone (changes_by view.records 0 s)
+  fine_changed (Some tx) s = refl
 
-  same_stays : new ≡ old → StaysHalted old.halted new.halted
-  same_stays same = λ _. ap (λ (s : StateData). s.halted) same
+  fine_begun : (current : Option TxData) → IsFine (begun own current)
+  fine_begun None = refl
+  fine_begun (Some tx) = refl
 
-  decided_stays : (tx : TxData) (d : DecisionData) → Decides old session tx d new → StaysHalted old.halted new.halted
-  decided_stays tx (accepted place rids) h = λ _. h.3.halted
-  decided_stays tx (halted_at at) h = same_stays h.1
-  decided_stays tx (feed_full entries bytes) h = same_stays h.4
-  decided_stays tx (refused why) h = same_stays h.3
-  decided_stays tx (pages_full n heavy) h = same_stays h.5
-  decided_stays tx (log_full need room) h = same_stays h.4
-  decided_stays tx fault h = λ over. absurd (cc (over, h.0.allowed.asked.running))
-  decided_stays tx device h = same_stays h.1
-  decided_stays tx (busy turn) h = same_stays h.2
-  decided_stays tx (damaged page) h = same_stays h.2
-  decided_stays tx no_memory h = same_stays h
+  fine_finished : (current : Option TxData) → IsFine (ended own current)
+  fine_finished None = refl
+  fine_finished (Some tx) = fine_ended tx tx.changes
 
-  -- ---- all of it
+  fine_dropped : (current : Option TxData) → IsFine (rolled_back own current)
+  fine_dropped None = refl
+  fine_dropped (Some tx) = refl
 
-  pub told_so : (reply : Reply) → Executes session old new causes_old causes_new (Some (view_of (base_with rows))) text (get_or cur (session - 1) None) reply left → IsTold (kept_as old cur) session text (reply_of reply) (kept_as new cur')
-  told_so reply (inl h) = record { replied = λ run k. refused_so (reply_of reply) run h k; fault_told = refused_fine (reply_of reply) h; halted_stays = same_stays h.state }
-  told_so reply (inr (inl h)) = record { replied = λ run k. finished_so (reply_of reply) run h k; fault_told = finished_fine (reply_of reply) h; halted_stays = same_stays h.state }
-  told_so reply (inr (inr h)) =
-      let by = h.decided in
-      record {
-        replied = λ run k. committed_so reply run h k;
-        fault_told = decided_fine h.left by.decision (reply_of reply) by.decides by.causes by.reply_is;
-        halted_stays = decided_stays (tx_pending h.left) by.decision by.decides;
-      }
+  fine_meaning : (s : StatementData) → IsFine (meaning view own s)
+  fine_meaning (inserts name value) = fine_changed own.transaction (inserts name value)
+  fine_meaning (selects rid) = refl
+  fine_meaning (updates rid name value) = fine_changed own.transaction (updates rid name value)
+  fine_meaning (deletes_vertex rid) = fine_changed own.transaction (deletes_vertex rid)
+  fine_meaning begins = fine_begun own.transaction
+  fine_meaning commits = fine_finished own.transaction
+  fine_meaning rolls_back = fine_dropped own.transaction
 
--- an entry in doubt is one of the run too
-some_doubt : (o : Option Entry) → IsSome o → IsSome (option_map entry_of o)
-some_doubt None h = absurd (cc h)
-some_doubt (Some entry) h = refl
+fine_answer : (m : MeaningData) (old : SessionData) (reply : ReplyData) (new : SessionData) → IsFine m
+    → IsAnswer m old reply new → is_fault reply.told ≡ false
+fine_answer (answered said) old reply new fine h = ap (λ (r : ReplyData). is_fault r.told) h.0 ∙ fine
+fine_answer (turned said kept) old reply new fine h = ap (λ (r : ReplyData). is_fault r.told) h.0 ∙ fine
+fine_answer (pending p) old reply new fine h = absurd h
 
--- what an engine keeps before a statement and after it
-pub engine_so : (old new : Kept) (opening_old opening_new : OpeningData) (causes : Causes) → AreAt 0 (rows_of old.table.0) → causes.device ≡ 0 → causes.busy ≡ 0 → causes.damaged ≡ 0 → (new.halted ≡ None → causes.fault ≡ 0)
-    → (IsSome new.halted → IsSome new.doubt) → IsEngine (rows_of old.table.0) (state_of old opening_old) (state_of new opening_new) causes
-engine_so old new opening_old opening_new causes at no_devices none_busy none_damaged faultless doubted = record {
-  base = refl;
-  in_use = refl;
-  front = λ feed is. keeper_laws.front_is old.feed.items feed is;
-  at = at;
-  inside = record { device = no_devices; busy = none_busy; damaged = none_damaged };
-  faultless = faultless;
-  doubted = λ over. some_doubt new.doubt (doubted over);
+fine_given : (p : PendingData) (place : ℕ) (rids : List Rid) → is_fault (reply_by (accepted place rids) p).told ≡ false
+fine_given (one plan) place rids = refl
+fine_given (whole tx) place rids = refl
+fine_given (schema definition) place rids = refl
+
+some_stays : (old new : Option ℕ) → ((at : ℕ) → old ≡ Some at → new ≡ Some at) → IsSome old → IsSome new
+some_stays None new stays some = absurd (cc some)
+some_stays (Some at) new stays some = subst (λ (o : Option ℕ). IsSome o) (sym (stays at refl)) refl
+
+-- a reply is that commits have ended
+abbrev SaysHalted : ℕ → ReplyData → Type 0
+SaysHalted at reply = reply.told ≡ Err (replies.halted at)
+
+halted_fault : (at : ℕ) (reply : ReplyData) → SaysHalted at reply → IsTrue (is_fault reply.told)
+halted_fault at reply says = ap (λ (t : Result ℕ RefusalData). is_fault t) says
+
+told_is : (reply : ReplyData) (why : RefusalData) → reply ≡ replies.refused why → reply.told ≡ Err why
+told_is reply why is = ap (λ (r : ReplyData). r.told) is
+
+-- A decision answers a fault only where one has come, and that commits have ended only where they have; and what had
+-- come stays.
+module _ (earlier : List EntryData) (failed : List (ℕ × EntryData)) (old new : StateData)
+    (causes_old causes_new : Causes)
+    (inside : IsInside causes_new) where
+  abbrev HadFailed : Type 0
+  HadFailed = HasFailed (store_as earlier failed old causes_old)
+
+  abbrev HasNow : Type 0
+  HasNow = HasFailed (store_as earlier failed new causes_new)
+
+  -- commits stay ended
+  abbrev StayEnded : Type 0
+  StayEnded = (at : ℕ) → old.halted ≡ Some at → new.halted ≡ Some at
+
+  stays_so : StayEnded → causes_old.fault ≤ causes_new.fault → HadFailed → HasNow
+  stays_so still later (inl over) = inl (some_stays old.halted new.halted still over)
+  stays_so still later (inr some) = inr (omega (arith, later, some))
+
+  same_halted : new ≡ old → new.halted ≡ old.halted
+  same_halted same = ap (λ (s : StateData). s.halted) same
+
+  still : new ≡ old → StayEnded
+  still same at was = same_halted same ∙ was
+
+  module _ (session : ℕ) (p : PendingData) (reply : ReplyData) where
+    fine_decided : (tx : TxData) (d : DecisionData) → DecidesCommit old session tx d new
+        → causes_new ≡ counted d causes_old
+        → reply ≡ reply_by d p → IsTrue (is_fault reply.told) → HasNow
+    fine_decided tx (accepted place rids) h causes told = λ fault.
+        absurd (cc (ap (λ (r : ReplyData). is_fault r.told) told ∙ fine_given p place rids, fault))
+    fine_decided tx (halted_at at) h causes told = λ _.
+        inl (subst (λ (o : Option ℕ). IsSome o) (sym (same_halted h.1 ∙ h.0)) refl)
+    fine_decided tx (feed_full entries bytes) h causes told = not_told reply (replies.feed_full entries bytes) told refl
+    fine_decided tx (refused why) h causes told = not_told reply (replies.by_base why) told refl
+    fine_decided tx (pages_full n heavy) h causes told = not_told reply (replies.pages_full n heavy) told refl
+    fine_decided tx (log_full need room) h causes told = not_told reply (replies.log_full need room) told refl
+    fine_decided tx fault h causes told = λ _. inr (fault_counted causes_old causes_new causes)
+    fine_decided tx device h causes told = absurd (no_device causes_old causes_new inside causes)
+    fine_decided tx (busy turn) h causes told = absurd (no_busy causes_old causes_new inside causes)
+    fine_decided tx (damaged page) h causes told = absurd (no_damaged causes_old causes_new inside causes)
+    fine_decided tx no_memory h causes told = not_told reply replies.no_memory told refl
+
+    -- only the decision that commits have ended is told so
+    halted_decided : (tx : TxData) (d : DecisionData) → DecidesCommit old session tx d new
+        → causes_new ≡ counted d causes_old
+        → reply ≡ reply_by d p → (at : ℕ) → SaysHalted at reply → new.halted ≡ Some at
+    halted_decided tx (accepted place rids) h causes told at says =
+        absurd (cc (ap (λ (r : ReplyData). is_fault r.told) told ∙ fine_given p place rids, halted_fault at reply says))
+    halted_decided tx (halted_at n) h causes told at says =
+        let is : n ≡ at = cc (told_is reply (replies.halted n) told, says) in
+        same_halted h.1 ∙ h.0 ∙ ap (λ (m : ℕ). Some m) is
+    halted_decided tx (feed_full entries bytes) h causes told at says =
+        not_told reply (replies.feed_full entries bytes) told refl (halted_fault at reply says)
+    halted_decided tx (refused why) h causes told at says =
+        not_told reply (replies.by_base why) told refl (halted_fault at reply says)
+    halted_decided tx (pages_full n heavy) h causes told at says =
+        not_told reply (replies.pages_full n heavy) told refl (halted_fault at reply says)
+    halted_decided tx (log_full need room) h causes told at says =
+        not_told reply (replies.log_full need room) told refl (halted_fault at reply says)
+    halted_decided tx fault h causes told at says = absurd (cc (told_is reply replies.fault told, says))
+    halted_decided tx device h causes told at says = absurd (no_device causes_old causes_new inside causes)
+    halted_decided tx (busy turn) h causes told at says = absurd (no_busy causes_old causes_new inside causes)
+    halted_decided tx (damaged page) h causes told at says = absurd (no_damaged causes_old causes_new inside causes)
+    halted_decided tx no_memory h causes told at says =
+        not_told reply replies.no_memory told refl (halted_fault at reply says)
+
+    -- a write is only tried where commits go on
+    stay_ended : (tx : TxData) (d : DecisionData) → DecidesCommit old session tx d new → StayEnded
+    stay_ended tx (accepted place rids) h = λ at was. h.3.halted ∙ was
+    stay_ended tx (halted_at n) h = still h.1
+    stay_ended tx (feed_full entries bytes) h = still h.4
+    stay_ended tx (refused why) h = still h.3
+    stay_ended tx (pages_full n heavy) h = still h.5
+    stay_ended tx (log_full need room) h = still h.5
+    stay_ended tx fault h = λ at was. absurd (cc (h.0.allowed.asked.running, was))
+    stay_ended tx device h = still h.1
+    stay_ended tx (busy turn) h = still h.2
+    stay_ended tx (damaged page) h = still h.2
+    stay_ended tx no_memory h = still h
+
+    asked_fine : (asked : AskedData) (d : DecisionData) → Decides old session asked d new
+        → causes_new ≡ counted d causes_old → reply ≡ reply_by d p → IsTrue (is_fault reply.told) → HasNow
+    asked_fine (asks_commit tx) d h causes told = fine_decided tx d h causes told
+    asked_fine (asks_define definition) d h causes told = absurd h
+
+    asked_halted : (asked : AskedData) (d : DecisionData) → Decides old session asked d new
+        → causes_new ≡ counted d causes_old → reply ≡ reply_by d p → (at : ℕ) → SaysHalted at reply
+        → new.halted ≡ Some at
+    asked_halted (asks_commit tx) d h causes told = halted_decided tx d h causes told
+    asked_halted (asks_define definition) d h causes told = absurd h
+
+    asked_stays : (asked : AskedData) (d : DecisionData) → Decides old session asked d new → StayEnded
+    asked_stays (asks_commit tx) d h = stay_ended tx d h
+    asked_stays (asks_define definition) d h = absurd h
+
+  refused_fine : (view : Option ViewData) (text : List ℕ) (reply : ReplyData)
+      → (IsUnbuilt text reply × (causes_new ≡ causes_old)) ⊎ IsReadFault view causes_old causes_new reply
+      → IsTrue (is_fault reply.told) → ⊥
+  refused_fine view text reply (inl unbuilt) = not_told reply replies.unbuilt unbuilt.0.reply_is refl
+  refused_fine view text reply (inr wrong) =
+      not_told reply replies.no_memory
+      (wrong.reply_is ∙ ap replies.refused (only_memory causes_old causes_new inside wrong.fault wrong.counted)) refl
+
+  refused_later : (view : Option ViewData) (text : List ℕ) (reply : ReplyData)
+      → (IsUnbuilt text reply × (causes_new ≡ causes_old)) ⊎ IsReadFault view causes_old causes_new reply
+      → causes_old.fault ≤ causes_new.fault
+  refused_later view text reply (inl unbuilt) = omega (arith, ap (λ (c : Causes). c.fault) unbuilt.1)
+  refused_later view text reply (inr wrong) = faults_read causes_old causes_new wrong.fault wrong.counted
+
+-- ---- the opening
+
+module _ (session : ℕ) (old new : StateData) where
+  same_opening : new ≡ old → new.opening ≡ old.opening
+  same_opening same = ap (λ (s : StateData). s.opening) same
+
+  opening_decided : (asked : AskedData) (d : DecisionData) → Decides old session asked d new → new.opening ≡ old.opening
+  opening_decided (asks_commit tx) (accepted place rids) h = h.3.opening
+  opening_decided (asks_commit tx) (halted_at at) h = same_opening h.1
+  opening_decided (asks_commit tx) (feed_full entries bytes) h = same_opening h.4
+  opening_decided (asks_commit tx) (refused why) h = same_opening h.3
+  opening_decided (asks_commit tx) (pages_full n heavy) h = same_opening h.5
+  opening_decided (asks_commit tx) (log_full need room) h = same_opening h.5
+  opening_decided (asks_commit tx) fault h = ap (λ (s : StateData). s.opening) h.1.same
+  opening_decided (asks_commit tx) device h = same_opening h.1
+  opening_decided (asks_commit tx) (busy turn) h = same_opening h.2
+  opening_decided (asks_commit tx) (damaged page) h = same_opening h.2
+  opening_decided (asks_commit tx) no_memory h = same_opening h
+  opening_decided (asks_define definition) d h = absurd h
+
+  pub opening_so : (causes_old causes_new : Causes) (view : Option ViewData) (text : List ℕ) (kept : SessionData)
+      (reply : Reply) (left : SessionData) → Executes session old new causes_old causes_new view text kept reply left
+      → new.opening ≡ old.opening
+  opening_so causes_old causes_new view text kept reply left (inl h) = same_opening h.state
+  opening_so causes_old causes_new view text kept reply left (inr (inl h)) = same_opening h.state
+  opening_so causes_old causes_new view text kept reply left (inr (inr h)) =
+      opening_decided (asked_by h.left) h.decided.decision h.decided.decides
+
+-- ---- all of it
+
+some_reply : (b : Bool) → IsTrue (b || false) → IsTrue b
+some_reply true h = refl
+some_reply false h = h
+
+inside_of : (state : StateData) (causes : Causes) → IsKeptState state causes → IsInside causes
+inside_of state causes known = record {
+  device = known.inside.0;
+  busy = known.inside.1;
+  damaged = known.inside.2;
 }
+
+module _ (earlier : List EntryData) (failed : List (ℕ × EntryData)) (view : Option ViewData) (old new : StateData)
+    (causes_old causes_new : Causes) (text : List ℕ) (cur cur' : List SessionData) (session : ℕ) (reply : Reply)
+    (left : SessionData) (known : IsKeptState old causes_old) (after : IsKeptState new causes_new)
+    (shows : view ≡ option_map view_of old.base) (is : cur' ≡ set cur (session - 1) left) where
+  abbrev Said : ReplyData
+  Said = reply_of reply
+
+  inside : IsInside causes_new
+  inside = inside_of new causes_new after
+
+  abbrev Stepped : Type 0
+  Stepped = IsStepped (kept_as earlier failed old causes_old cur) (statement session text)
+      (to_session session (Said ∷ []))
+      (kept_as earlier failed new causes_new cur')
+
+  stepped_by : ((run : RunData) → Keeps (kept_as earlier failed old causes_old cur) run
+      → (next : RunData) × TellsOrNot run session text Said next
+      × Keeps (kept_as earlier failed new causes_new cur') next)
+      → (IsTrue (is_fault Said.told) → HasFailed (store_as earlier failed new causes_new))
+      → ((at : ℕ) → SaysHalted at Said → new.halted ≡ Some at)
+      → ((at : ℕ) → old.halted ≡ Some at → new.halted ≡ Some at) → causes_old.fault ≤ causes_new.fault → Stepped
+  stepped_by told fine ended stays later = record {
+    steps = λ run k. (let t = told run k in (t.0, (Said, t.1, refl), t.2));
+    fault_told = λ fault. fine (some_reply (is_fault Said.told) fault);
+    failed_stays = stays_so earlier failed old new causes_old causes_new inside stays later;
+    halted_told = λ at found. ended at (only (λ (r : ReplyData). SaysHalted at r) Said found);
+    halted_stays = stays;
+  }
+
+  pub told_so : Executes session old new causes_old causes_new view text (get_or cur (session - 1) closed) reply left
+      → Stepped
+  told_so (inl h) =
+      let fine = refused_fine earlier failed old new causes_old causes_new inside view text Said h.why in
+      stepped_by
+      (λ run k. refused_so earlier failed view old new causes_old causes_new cur cur' session Said left known shows
+      inside
+      is run k text h.why h.kept h.state)
+      (λ fault. absurd (fine fault)) (λ at says. absurd (fine (halted_fault at Said says)))
+      (still earlier failed old new causes_old causes_new inside h.state)
+      (refused_later earlier failed old new causes_old causes_new inside view text Said h.why)
+  told_so (inr (inl h)) =
+      let own = get_or cur (session - 1) closed in
+      let answer = in_base old causes_old view known shows
+      (λ shown. IsAnswer (meaning shown own h.statement) own Said left) h.answer in
+      let fine = fine_answer _ own Said left (fine_meaning (view_of known.base) own h.statement) answer in
+      stepped_by
+      (λ run k. finished_so earlier failed view old new causes_old causes_new cur cur' session Said left known shows
+      inside
+      is run k text h.statement h.is h.answer h.state)
+      (λ fault. absurd (cc (fine, fault))) (λ at says. absurd (cc (fine, halted_fault at Said says)))
+      (still earlier failed old new causes_old causes_new inside h.state)
+      (omega (arith, ap (λ (c : Causes). c.fault) h.causes))
+  told_so (inr (inr h)) =
+      let by = h.decided in
+      stepped_by
+      (λ run k. committed_so earlier failed view old new causes_old causes_new cur cur' session Said left known shows
+      inside is run k text h.statement h.left h.is h.meant
+      (decide_asked earlier failed view old new causes_old causes_new cur cur' session Said left known shows inside
+      is
+      run k h.left (asked_by h.left) by.decision refl by.askable by.decides by.reply_is by.causes by.on_base
+      by.left_is))
+      (asked_fine earlier failed old new causes_old causes_new inside session h.left Said (asked_by h.left)
+      by.decision by.decides by.causes by.reply_is)
+      (asked_halted earlier failed old new causes_old causes_new inside session h.left Said (asked_by h.left)
+      by.decision by.decides by.causes by.reply_is)
+      (asked_stays earlier failed old new causes_old causes_new inside session h.left Said (asked_by h.left)
+      by.decision by.decides)
+      (faults_kept causes_old causes_new by.decision by.causes)

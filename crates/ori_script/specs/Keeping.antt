@@ -1,70 +1,76 @@
--- When what an engine and its sessions keep is that of a run, and what a line does to it.
-use Rattle.std.specs.Prelude.{◌≡◌, ◌-◌, ◌≤◌, ℕ, List, map, get_or, set, Option, Some, None, Result, IsTrue, IsSome, IfOk, ⊤}
+-- When what is kept of a run is what the run has come to, and what a line does to it.
+use Rattle.std.specs.Prelude.{◌≡◌, ◌⊎◌, ◌-◌, ◌<◌, ◌≤◌, ℕ, List, [], ◌++◌, map, get_or, set, Option, Some, Result}
+use Rattle.std.specs.Prelude.{Err, Any, IsTrue, IsSome, IfOk, ⊤}
 use Rattle.ori_bytes.specs.declared.causes.Causes.{Causes}
 use Rattle.ori_bytes.specs.declared.limits.TheConstants.{MAX_SESSIONS}
 use Rattle.ori_bytes.specs.declared.memory.NoMemory.{NoMemory}
-use Rattle.ori_spec.specs.Base.{TxData, EntryData}
-use Rattle.ori_spec.specs.Soundness.{IsSoundBase}
-use Rattle.ori_spec.specs.Keeping.{StateData}
-use Rattle.ori_spec.specs.Line.{LineData, statement, tries, step, StepData, flush, settle, checkpoint, reopen, history, bag, check}
-use Rattle.ori_spec.specs.Reply.{unbuilt, ReplyData, AnswerData, to_history, to_step, answer_text, is_fault, tells_fault}
-use Rattle.ori_spec.specs.Run.{RunData, TellsOrNot, Step}
-use Rattle.ori_spec.specs.Views.{ViewData}
+use Rattle.ori_spec_data.specs.Base.{EntryData}
+use Rattle.ori_spec_data.specs.Soundness.{IsSoundBase}
+use Rattle.ori_spec_data.specs.Keeping.{StateData}
+use Rattle.ori_spec_data.specs.Replies.{ReplyData, halted, unbuilt}
+use Rattle.ori_spec_data.specs.Views.{ViewData}
+use Rattle.ori_spec_texts.specs.Line.{LineData, statement, tries, step, StepData, flush, settle, checkpoint, reopen}
+use Rattle.ori_spec_texts.specs.Line.{history, bag, check}
+use Rattle.ori_spec_texts.specs.Reply.{AnswerData, to_session, to_history, to_step, answer_text, tells_fault}
+use Rattle.ori_spec_runs.specs.Answer.{SessionData, closed}
+use Rattle.ori_spec_runs.specs.Run.{RunData, Step}
 use Rattle.ori_model.specs.declared.reply.Reply.{Reply}
-use Rattle.ori_engine.specs.Crash.{doubts}
 use Rattle.ori_session.specs.Runs.{Executes}
-use Rattle.ori_session.specs.Sessions.{current_of}
+use Rattle.ori_session.specs.Sessions.{data_of}
 use Rattle.ori_script.specs.declared.sessions.Sessions.{Sessions}
 
 -- ---- sessions
 
--- what each session has open
-abbrev pub open_in : Sessions → List (Option TxData)
-open_in s = map current_of s.list.items
+-- what is kept of each session
+abbrev pub sessions_of : Sessions → List SessionData
+sessions_of s = map data_of s.list.items
 
--- a session's statement was done over a keeper, and what every other session has open is as before
-pub record IsDone (session : ℕ) (state_old state_new : StateData) (causes_old causes_new : Causes) (view : Option ViewData) (text : List ℕ) (old : List (Option TxData)) (reply : Reply) (new : List (Option TxData)) : Type 0 where
-  pub left : Option TxData
-  pub executes : Executes session state_old state_new causes_old causes_new view text (get_or old (session - 1) None) reply left
-  pub current : new ≡ set old (session - 1) left
+-- A session's statement was done over a keeper, and what is kept of every other session is as before.
+pub record IsDone (session : ℕ) (state_old state_new : StateData) (causes_old causes_new : Causes)
+    (view : Option ViewData) (text : List ℕ) (old : List SessionData) (reply : Reply)
+    (new : List SessionData) : Type 0 where
+  pub left : SessionData
+  pub executes : Executes session state_old state_new causes_old causes_new view text (get_or old (session - 1) closed)
+      reply left
+  pub sessions : new ≡ set old (session - 1) left
 
 -- ---- what is kept
 
--- what is kept of a run: the engine's state, and what each session has open
-pub record KeptData : Type 0 where
+-- What is kept of the store in a run: the entries of earlier openings; those whose own write failed and whose fate an
+-- opening has decided since; the keeper's state, and how often it answered each fault.
+pub record StoreData : Type 0 where
+  pub earlier : List EntryData
+  pub failed : List (ℕ × EntryData)
   pub state : StateData
-  pub current : List (Option TxData)
+  pub causes : Causes
 
-abbrev pub kept : StateData → Sessions → KeptData
-kept state sessions = record { state = state; current = open_in sessions }
+-- that, and what is kept of each session
+pub record KeptData : Type 0 where
+  pub store : StoreData
+  pub sessions : List SessionData
 
--- It is what the run has come to. Behind a failed write of the log its room doesn't matter.
+-- those of a run with one opening, over a keeper
+abbrev pub store : {R : Type 0} (keeps : R → StateData) (counts : R → Causes) → R → StoreData
+store keeps counts keeper = record { earlier = []; failed = []; state = keeps keeper; causes = counts keeper }
+
+abbrev pub kept : {R : Type 0} (keeps : R → StateData) (counts : R → Causes) → R → Sessions → KeptData
+kept keeps counts keeper sessions = record { store = store keeps counts keeper; sessions = sessions_of sessions }
+
+-- it is what the run has come to
 pub record Keeps (kept : KeptData) (run : RunData) : Type 0 where
   pub sound : IsSoundBase run.base
-  pub base : kept.state.base ≡ Some run.base
-  pub history : kept.state.feed ≡ Some run.history
-  pub halted : kept.state.halted ≡ run.halted
-  pub doubtful : doubts run.history kept.state.doubt ≡ run.doubtful
-  pub room : kept.state.halted ≡ None → (kept.state.room ≡ Some run.room) × (kept.state.doubt ≡ None)
-  pub current : kept.current ≡ run.current
+  pub base : kept.store.state.base ≡ Some run.base
+  pub feed : kept.store.state.feed ≡ Some run.feed
+  pub history : run.history ≡ kept.store.earlier ++ run.feed
+  pub failed : kept.store.failed ≡ run.failed
+  pub halted : kept.store.state.halted ≡ run.halted
+  pub doubt : kept.store.state.doubt ≡ run.doubt
+  pub limit : kept.store.state.limit ≡ run.limit
+  pub sessions : kept.sessions ≡ run.sessions
 
--- commits that have ended stay so
-abbrev pub StaysHalted : Option ℕ → Option ℕ → Type 0
-StaysHalted old new = IsSome old → new ≡ old
-
--- ---- a statement
-
--- a session's statement got this reply, and what is kept is what the run has come to
-pub record IsReplied (run : RunData) (session : ℕ) (text : List ℕ) (reply : ReplyData) (kept : KeptData) : Type 0 where
-  pub next : RunData
-  pub tells : TellsOrNot run session text reply next
-  pub keeps : Keeps kept next
-
--- A session's statement was run, and answered so. The reply tells of a fault only where commits have ended.
-pub record IsTold (old : KeptData) (session : ℕ) (text : List ℕ) (reply : ReplyData) (new : KeptData) : Type 0 where
-  pub replied : (run : RunData) → Keeps old run → IsReplied run session text reply new
-  pub fault_told : IsTrue (is_fault reply.told) → IsSome new.state.halted
-  pub halted_stays : StaysHalted old.state.halted new.state.halted
+-- commits have ended, or one was answered a fault
+abbrev pub HasFailed : StoreData → Type 0
+HasFailed store = IsSome store.state.halted ⊎ (0 < store.causes.fault)
 
 -- ---- a step
 
@@ -78,6 +84,14 @@ step_answer entries history = to_history entries
 step_answer entries (bag vertex dir class) = to_step unbuilt
 step_answer entries check = to_step unbuilt
 
+-- ---- answers that commits have ended
+
+-- an answer is that they ended when so many calls of the volume had failed
+abbrev pub TellsHalted : ℕ → AnswerData → Type 0
+TellsHalted at (to_session session replies) = Any (λ (reply : ReplyData). reply.told ≡ Err (halted at)) replies
+TellsHalted at (to_history entries) = ⊥
+TellsHalted at (to_step refusal) = refusal ≡ halted at
+
 -- ---- a line
 
 -- a statement's session is one of 1 to 64
@@ -86,16 +100,18 @@ IsOfSession (statement session text) = (1 ≤ session) × (session ≤ MAX_SESSI
 IsOfSession (tries session count text) = (1 ≤ session) × (session ≤ MAX_SESSIONS)
 IsOfSession (step s) = ⊤
 
--- a line was run, and what is kept is what the run has come to
-pub record IsStepped (run : RunData) (line : LineData) (answer : AnswerData) (kept : KeptData) : Type 0 where
-  pub next : RunData
-  pub stepped : Step run line answer next
-  pub keeps : Keeps kept next
+-- A line was run with this answer, and what is kept is what the run has come to. The answer tells of a fault only where
+-- one has come, and that commits have ended only where they have, at the count of faults that it names.
+pub record IsStepped (old : KeptData) (line : LineData) (answer : AnswerData) (new : KeptData) : Type 0 where
+  pub steps : (run : RunData) → Keeps old run → (next : RunData) × Step run line answer next × Keeps new next
+  pub fault_told : IsTrue (tells_fault answer) → HasFailed new.store
+  pub failed_stays : HasFailed old.store → HasFailed new.store
+  pub halted_told : (at : ℕ) → TellsHalted at answer → new.store.state.halted ≡ Some at
+  pub halted_stays : (at : ℕ) → old.store.state.halted ≡ Some at → new.store.state.halted ≡ Some at
 
--- A line was run; the text of its answer, where there was memory for it. An answer tells of a fault only where commits have ended.
-pub record IsAnswered (old : KeptData) (line : LineData) (text : Result (List ℕ) NoMemory) (new : KeptData) : Type 0 where
+-- A line was run; the text of its answer, where there was memory for it.
+pub record IsAnswered (old : KeptData) (line : LineData) (text : Result (List ℕ) NoMemory)
+    (new : KeptData) : Type 0 where
   pub answer : AnswerData
-  pub stepped : (run : RunData) → Keeps old run → IsStepped run line answer new
-  pub fault_told : IsTrue (tells_fault answer) → IsSome new.state.halted
-  pub halted_stays : StaysHalted old.state.halted new.state.halted
+  pub stepped : IsStepped old line answer new
   pub text_is : IfOk text (λ bytes. bytes ≡ answer_text answer)

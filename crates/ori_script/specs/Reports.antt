@@ -1,6 +1,7 @@
--- What a report of the code stands for.
-use Rattle.std.specs.Prelude.{ℕ, map, option_map}
-use Rattle.ori_spec.specs.Base.{EntryData}
+-- What a report of the code stands for, and what it tells of what is kept.
+use Rattle.std.specs.Prelude.{◌≡◌, ℕ, Bool, [], Some, map, option_map}
+use Rattle.ori_spec_data.specs.Base.{EntryData}
+use Rattle.ori_spec_data.specs.Keeping.{StateData}
 use Rattle.ori_model.specs.declared.entry.Entry.{Entry}
 use Rattle.ori_model.specs.declared.outcome.Report.{Report}
 use Rattle.ori_model.specs.Data.{entry_of, entries_of}
@@ -17,3 +18,10 @@ report_of r = record {
   failed = map placed_of r.failed;
   marks = r.marks;
 }
+
+-- it tells of a run with one opening, whose keeper has come to this state
+pub record ReportsOn (state : StateData) (was_empty : Bool) (report : ReportData) : Type 0 where
+  pub emptiness : report.was_empty ≡ was_empty
+  pub history : state.feed ≡ Some report.history
+  pub doubt : state.doubt ≡ report.doubt
+  pub none_decided : report.failed ≡ []

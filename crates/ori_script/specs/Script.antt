@@ -1,21 +1,40 @@
 -- What a script's run has to do with what was read and what was printed, and where it ends.
-use Rattle.std.specs.Prelude.{◌≡◌, ◌⊎◌, ℕ, Bool, false, List, [], ◌++◌, length, IsTrue, Any, Option, IsSome}
+use Rattle.std.specs.Prelude.{◌≡◌, ◌⊎◌, ℕ, Bool, false, List, [], ◌∷◌, ◌++◌, length, IsTrue, Any, Option, Some}
+use Rattle.std.specs.Prelude.{unwrap_or}
 use Rattle.ori_volume.specs.Disk.{Files}
 use Rattle.ori_volume.specs.Streams.{Took, Gave}
-use Rattle.ori_spec.specs.Base.{BaseData, EntryData}
-use Rattle.ori_spec.specs.Line.{LineData, StopData, at_end, at_bad_line, at_limit, Gives, Reads}
-use Rattle.ori_spec.specs.Reply.{AnswerData, answers_text, tells_fault}
-use Rattle.ori_spec.specs.Histories.{IsLegalHistory}
-use Rattle.ori_spec.specs.Run.{RunData, run_start, Run}
+use Rattle.ori_spec_data.specs.Base.{BaseData, EntryData}
+use Rattle.ori_spec_data.specs.Histories.{IsLegalHistory}
+use Rattle.ori_spec_texts.specs.Line.{LineData, StopData, at_end, at_bad_line, at_limit, Gives, Reads}
+use Rattle.ori_spec_texts.specs.Reply.{AnswerData, answer_text, answers_text, tells_fault}
+use Rattle.ori_spec_crash.specs.Crash.{doubts}
+use Rattle.ori_spec_runs.specs.Run.{RunData, run_start, doubtful, Run}
 use Rattle.ori_text.specs.Lines.{Reading, joined, AreWhole, HasLast}
 use Rattle.ori_text.specs.LineReading.{IsAtEnd}
-use Rattle.ori_engine.specs.Crash.{doubts}
 use Rattle.ori_engine.specs.Openings.{Finds}
-use Rattle.ori_script.specs.Keeping.{KeptData, Keeps}
+use Rattle.ori_script.specs.Keeping.{StoreData, KeptData, Keeps, HasFailed, TellsHalted}
+
+-- ---- what is printed
+
+-- the last answer, a front of its text which was printed, and the rest of it
+pub record IsCut (answers : List AnswerData) (output unprinted : List ℕ) : Type 0 where
+  pub before : List AnswerData
+  pub last : AnswerData
+  pub front : List ℕ
+  pub answers_are : answers ≡ before ++ last ∷ []
+  pub text : answer_text last ≡ front ++ unprinted
+  pub printed : output ≡ answers_text before ++ front
+
+-- All answers are printed whole, or all but the last, of which a front is.
+abbrev pub ArePrinted : List AnswerData → List ℕ → List ℕ → Type 0
+ArePrinted answers output unprinted =
+    ((output ≡ answers_text answers) × (unprinted ≡ [])) ⊎ IsCut answers output unprinted
+
+-- ---- where a run ends
 
 -- Why a run ends with a status, where `unread` are the lines of the input behind those that were read.
 -- 0: the source gave its end, and each line of the input has its answer, all of them printed.
--- 2: memory was wanting outside a statement, which may come at any place.
+-- 2: memory was wanting outside a statement, which may come at any place; a part of the last answer may be unprinted.
 -- 3: the source failed behind whole lines, each of which has its answer, all of them printed.
 -- 4: the sink failed; it may have taken a part of the last answer.
 -- 8: the next line is of no form. 9: the first byte past the limit of the input lies in the next line.
@@ -28,25 +47,48 @@ Ends status ended unread stop unprinted =
     ⊎ ((status ≡ 8) × (stop ≡ at_bad_line) × (unprinted ≡ []))
     ⊎ ((status ≡ 9) × (stop ≡ at_limit) × (unprinted ≡ []))
 
+-- What a run leaves: the history; the entries whose own write failed and whose fate an opening decided; the one in
+-- doubt; and whether commits have ended.
+pub record LeftData : Type 0 where
+  pub history : List EntryData
+  pub failed : List (ℕ × EntryData)
+  pub doubt : Option EntryData
+  pub halted : Option ℕ
+
+-- what is left where this is kept
+abbrev pub left_of : StoreData → LeftData
+left_of store = record {
+  history = store.earlier ++ unwrap_or store.state.feed [];
+  failed = store.failed;
+  doubt = store.state.doubt;
+  halted = store.state.halted;
+}
+
 -- the lines have these answers over the base that the volume was found with, and the run has come to what is kept
-pub record RunsTo (base : BaseData) (room : ℕ) (said : List LineData) (answers : List AnswerData) (kept : KeptData) : Type 0 where
+pub record RunsTo (base : BaseData) (room : ℕ) (said : List LineData) (answers : List AnswerData)
+    (kept : KeptData) : Type 0 where
   pub now : RunData
-  pub run : Run (run_start base room) said answers now
+  pub run : Run (run_start base (Some room)) said answers now
   pub keeps : Keeps kept now
 
--- a run from this base on, with this history, which can come about, this doubtful entry, and the log halted or not
-pub record RanTo (base : BaseData) (room : ℕ) (said : List LineData) (answers : List AnswerData) (history : List EntryData) (doubt : Option EntryData) (halted : Option ℕ) : Type 0 where
+-- a run from this base on, which leaves this; its history can come about
+pub record RanTo (base : BaseData) (room : ℕ) (said : List LineData) (answers : List AnswerData)
+    (left : LeftData) : Type 0 where
   pub final : RunData
-  pub run : Run (run_start base room) said answers final
-  pub history_is : history ≡ final.history
-  pub legal : IsLegalHistory base history
-  pub doubtful_is : doubts history doubt ≡ final.doubtful
-  pub halted_is : halted ≡ final.halted
+  pub run : Run (run_start base (Some room)) said answers final
+  pub history_is : left.history ≡ final.history
+  pub legal : IsLegalHistory base left.history
+  pub failed_is : left.failed ≡ final.failed
+  pub doubt_is : left.doubt ≡ final.doubt
+  pub doubtful_is : left.failed ++ doubts left.history left.doubt ≡ doubtful final
+  pub halted_is : left.halted ≡ final.halted
 
--- A run over a volume that told these files, between a source and a sink as they were and as they are: the input that it took
--- gives lines; the first of them were read and say what was run, with these answers; and of the answers' text this output was
--- given. An answer tells of a fault only where the log is halted.
-pub record IsRun (files : Option Files) (left_old left_new taken_old taken_new : Option (List ℕ)) (status : ℕ) (history : List EntryData) (doubt : Option EntryData) (halted : Option ℕ) : Type 0 where
+-- A run over a volume that told these files, between a source and a sink as they were and as they are: the input that
+-- it
+-- took gives lines; the first of them were read and say what was run, with these answers; and of the answers' text this
+-- output was given.
+pub record IsRun (files : Option Files) (left_old left_new taken_old taken_new : Option (List ℕ)) (status : ℕ)
+    (answers : List AnswerData) (left : LeftData) : Type 0 where
   pub input : List ℕ
   pub took : Took left_old left_new input
   pub ended : Bool
@@ -57,17 +99,33 @@ pub record IsRun (files : Option Files) (left_old left_new taken_old taken_new :
   pub said : List LineData
   pub stop : StopData
   pub reads : Reads 0 lines said stop
-  pub answers : List AnswerData
-  pub run : (base : BaseData) (room : ℕ) → Finds files base room → RanTo base room said answers history doubt halted
-  pub fault_told : Any (λ a. IsTrue (tells_fault a)) answers → IsSome halted
+  pub run : (base : BaseData) (room : ℕ) → Finds files base room → RanTo base room said answers left
   pub output : List ℕ
   pub unprinted : List ℕ
   pub gave : Gave taken_old taken_new output
-  pub text : answers_text answers ≡ output ++ unprinted
+  pub printed : ArePrinted answers output unprinted
   pub ends : Ends status ended unread stop unprinted
 
+-- an answer tells of a fault
+abbrev pub TellFault : List AnswerData → Type 0
+TellFault answers = Any (λ a. IsTrue (tells_fault a)) answers
+
+-- an answer is that commits ended when so many calls of the volume had failed
+abbrev pub TellHalted : ℕ → List AnswerData → Type 0
+TellHalted at answers = Any (λ a. TellsHalted at a) answers
+
+-- A run has ended over this store. An answer tells of a fault only where one has come, and that commits have ended only
+-- where they have, at the count of faults that it names.
+pub record HasEnded (files : Option Files) (left_old left_new taken_old taken_new : Option (List ℕ)) (status : ℕ)
+    (store : StoreData) : Type 0 where
+  pub answers : List AnswerData
+  pub run : IsRun files left_old left_new taken_old taken_new status answers (left_of store)
+  pub fault_told : TellFault answers → HasFailed store
+  pub halted_told : (at : ℕ) → TellHalted at answers → store.state.halted ≡ Some at
+
 -- A run that goes on: all lines that were read so far have their answers, which were printed.
-pub record GoesOn (files : Option Files) (left_old left_new taken_old taken_new : Option (List ℕ)) (reading : Reading) (kept : KeptData) : Type 0 where
+pub record GoesOn (files : Option Files) (left_old left_new taken_old taken_new : Option (List ℕ)) (reading : Reading)
+    (kept : KeptData) : Type 0 where
   pub input : List ℕ
   pub took : Took left_old left_new input
   pub source_end : IsTrue reading.ended → IsAtEnd left_new
@@ -79,5 +137,6 @@ pub record GoesOn (files : Option Files) (left_old left_new taken_old taken_new 
   pub reads : Reads 0 lines said at_end
   pub answers : List AnswerData
   pub run : (base : BaseData) (room : ℕ) → Finds files base room → RunsTo base room said answers kept
-  pub fault_told : Any (λ a. IsTrue (tells_fault a)) answers → IsSome kept.state.halted
+  pub fault_told : TellFault answers → HasFailed kept.store
+  pub halted_told : (at : ℕ) → TellHalted at answers → kept.store.state.halted ≡ Some at
   pub gave : Gave taken_old taken_new (answers_text answers)

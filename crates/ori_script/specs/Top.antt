@@ -1,17 +1,47 @@
--- What the top call says of a command.
-use Rattle.std.specs.Prelude.{◌≡◌, ◌⊎◌, ◌↔◌, ℕ, Bool, false, List, [], IsTrue, Option, Some, None}
+-- What the top call promises.
+use Rattle.std.specs.Prelude.{◌≡◌, ◌⊎◌, ◌↔◌, ◌≤◌, ℕ, Bool, false, List, [], ◌++◌, IsTrue, IfSome, Option, Some, None}
 use Rattle.ori_volume.specs.Causes.{Rose}
 use Rattle.ori_volume.specs.Disk.{Files, files_of}
-use Rattle.ori_volume.specs.Story.{Story}
-use Rattle.ori_spec.specs.Base.{BaseData, initial_base, EntryData}
-use Rattle.ori_spec.specs.Line.{IsValid}
-use Rattle.ori_spec.specs.Stage.{Opens}
+use Rattle.ori_volume.specs.Story.{Story, Tells}
+use Rattle.ori_spec_data.specs.Base.{BaseData, initial_base, EntryData}
+use Rattle.ori_spec_texts.specs.Line.{IsValid}
+use Rattle.ori_spec_texts.specs.Reply.{AnswerData}
+use Rattle.ori_spec_crash.specs.Crash.{CrashSafe, doubts}
+use Rattle.ori_rows.specs.Stage.{IsDatabase, OpensTo}
 use Rattle.ori_log.specs.Files.{files_data}
-use Rattle.ori_engine.specs.Crash.{CrashSafe, doubts}
 use Rattle.ori_engine.specs.Openings.{Finds, IsHaltedSince}
-use Rattle.ori_script.specs.Script.{IsRun}
+use Rattle.ori_script.specs.Script.{LeftData, IsRun, TellFault, TellHalted}
 
--- a report: whether the volume held the initial base, the history, the doubtful entry, those that were decided, and the marks
+-- ---- before and after
+
+-- what the volume, the source and the sink tell at a moment, and how many of their calls have failed
+pub record OutsideData : Type 0 where
+  pub files : Option Files
+  pub story : Option Story
+  pub faults : ℕ
+  pub log_faults : ℕ
+  pub left : Option (List ℕ)
+  pub source_faults : ℕ
+  pub taken : Option (List ℕ)
+  pub sink_faults : ℕ
+
+-- of a volume, a source and a sink that tell and count so
+abbrev pub outside : {V S K : Type 0} (files : V → Option Files) (story : V → Option Story) (faults log_faults : V → ℕ)
+    (left : S → Option (List ℕ)) (source_faults : S → ℕ) (taken : K → Option (List ℕ)) (sink_faults : K → ℕ)
+    → V → S → K → OutsideData
+outside files story faults log_faults left source_faults taken sink_faults volume source sink = record {
+  files = files volume;
+  story = story volume;
+  faults = faults volume;
+  log_faults = log_faults volume;
+  left = left source;
+  source_faults = source_faults source;
+  taken = taken sink;
+  sink_faults = sink_faults sink;
+}
+
+-- A report: whether the volume held the initial base; the history; the entry in doubt; the entries whose own write
+-- failed and whose fate an opening decided, each with the history's length then; and a mark for each entry.
 pub record ReportData : Type 0 where
   pub was_empty : Bool
   pub history : List EntryData
@@ -19,34 +49,85 @@ pub record ReportData : Type 0 where
   pub failed : List (ℕ × EntryData)
   pub marks : List ℕ
 
--- No line was run: nothing was taken from the source or given to the sink, and the report is empty. The words are wrong (1),
--- memory was wanting at the opening (2), the volume failed (5), or it is none that can be opened (6).
-pub record IsNotRun (left_old left_new taken_old taken_new : Option (List ℕ)) (status : ℕ) (report : ReportData) : Type 0 where
-  pub left : left_new ≡ left_old
-  pub taken : taken_new ≡ taken_old
-  pub nothing : report ≡ record { was_empty = false; history = []; doubt = None; failed = []; marks = [] }
+abbrev pub empty_report : ReportData
+empty_report = record { was_empty = false; history = []; doubt = None; failed = []; marks = [] }
+
+-- ---- the parts of the promises
+
+-- No line was run: nothing was taken from the source or given to the sink, and the report is empty. The words are wrong
+-- (1), memory was wanting at the opening (2), the volume failed (5), or it is none that can be opened (6).
+pub record IsNotRun (old new : OutsideData) (status : ℕ) (report : ReportData) : Type 0 where
+  pub left : new.left ≡ old.left
+  pub taken : new.taken ≡ old.taken
+  pub nothing : report ≡ empty_report
   pub why : (status ≡ 1) ⊎ (status ≡ 2) ⊎ (status ≡ 5) ⊎ (status ≡ 6)
 
--- The volume was opened, and lines were run. The log is halted only where the volume failed in this call.
-pub record IsRunOver (files : Option Files) (left_old left_new taken_old taken_new : Option (List ℕ)) (faults_old faults_new log_faults_old log_faults_new : ℕ) (status : ℕ) (report : ReportData) : Type 0 where
+-- what the report tells of what a run left
+abbrev pub left_in : ReportData → Option ℕ → LeftData
+left_in report halted = record {
+  history = report.history;
+  failed = report.failed;
+  doubt = report.doubt;
+  halted = halted;
+}
+
+-- The volume was opened, and lines were run. Commits have ended where a call on the log has failed since, and only
+-- there. An answer tells of a fault only where a call on the volume failed, and that commits have ended only where they
+-- have, at the count of faults that it names.
+pub record IsRunOver (old new : OutsideData) (status : ℕ) (report : ReportData) : Type 0 where
   pub halted : Option ℕ
-  pub halted_since : IsHaltedSince faults_old faults_new log_faults_old log_faults_new halted
-  pub run : IsRun files left_old left_new taken_old taken_new status report.history report.doubt halted
-  pub emptiness : (base : BaseData) (room : ℕ) → Finds files base room → IsTrue report.was_empty ↔ (base ≡ initial_base)
+  pub halted_since : IsHaltedSince old.faults new.faults old.log_faults new.log_faults halted
+  pub answers : List AnswerData
+  pub run : IsRun old.files old.left new.left old.taken new.taken status answers (left_in report halted)
+  pub fault_told : TellFault answers → Rose old.faults new.faults
+  pub halted_told : (at : ℕ) → TellHalted at answers → halted ≡ Some at
+  pub emptiness : (base : BaseData) (room : ℕ) → Finds old.files base room
+      → IsTrue report.was_empty ↔ (base ≡ initial_base)
   pub none_decided : report.failed ≡ []
 
--- a crash at any moment of the command leaves a prefix of its history with what was acknowledged
+-- A crash at any moment of the command leaves a prefix of its history with what was acknowledged, or that with an entry
+-- whose own write failed.
 abbrev pub Crashes : ReportData → Story → Story → Type 0
-Crashes report old new = (base : BaseData) → Opens (files_data (files_of old.now.disk)) base → CrashSafe base report.history (doubts report.history report.doubt) report.marks old new
+Crashes report old new = (base : BaseData) → OpensTo (files_of old.now.disk) base
+    → CrashSafe OpensTo base report.history (report.failed ++ doubts report.history report.doubt) report.marks old new
 
 -- a volume that opens, valid input, and no fault
-pub record IsFaultless (files : Option Files) (left : Option (List ℕ)) (faults_old faults_new source_old source_new sink_old sink_new : ℕ) : Type 0 where
+pub record IsFaultless (old new : OutsideData) : Type 0 where
   pub base : BaseData
   pub room : ℕ
-  pub finds : Finds files base room
+  pub finds : Finds old.files base room
   pub input : List ℕ
-  pub left_is : left ≡ Some input
+  pub left_is : old.left ≡ Some input
   pub valid : IsValid input
-  pub volume : Rose faults_old faults_new → ⊥
-  pub source : Rose source_old source_new → ⊥
-  pub sink : Rose sink_old sink_new → ⊥
+  pub volume : Rose old.faults new.faults → ⊥
+  pub source : Rose old.source_faults new.source_faults → ⊥
+  pub sink : Rose old.sink_faults new.sink_faults → ⊥
+
+-- ---- the promises
+
+-- What holds of a command, by what was told and counted before it and after it, its status and its report. Status 1 is
+-- that of words that are no command.
+pub record Promises (old new : OutsideData) (status : ℕ) (report : ReportData) : Type 0 where
+  -- What was read, what was answered and printed, the history, whether the volume held the initial base, and why the
+  -- run ended; or that no line was run.
+  pub outcome : IsNotRun old new status report ⊎ IsRunOver old new status report
+  -- A crash at any moment leaves a prefix of the history with every entry that was acknowledged.
+  pub crash : Tells (Crashes report) old.story new.story
+  -- Status 6 comes only where the files, as they read, aren't those of a database,
+  pub not_a_database : status ≡ 6 → IfSome old.files (λ fs. IsDatabase (files_data fs) → ⊥)
+  -- and they read the same then.
+  pub unchanged : status ≡ 6 → new.files ≡ old.files
+  -- Over such files it comes, unless memory was wanting or the volume failed before.
+  pub only_database : IfSome old.files (λ fs. (IsDatabase (files_data fs) → ⊥)
+      → (status ≡ 1) ⊎ (status ≡ 2) ⊎ (status ≡ 5) ⊎ (status ≡ 6))
+  -- Over a volume that opens, valid input without a fault is run to its end, unless memory is wanting.
+  pub complete : (status ≡ 1 → ⊥) → IsFaultless old new → (status ≡ 0) ⊎ (status ≡ 2)
+  -- A fault is answered only where it was one of the source's, the sink's or the volume's.
+  pub source_fault : status ≡ 3 → Rose old.source_faults new.source_faults
+  pub sink_fault : status ≡ 4 → Rose old.sink_faults new.sink_faults
+  pub volume_fault : status ≡ 5 → Rose old.faults new.faults
+  -- No count of faults falls.
+  pub source_later : old.source_faults ≤ new.source_faults
+  pub sink_later : old.sink_faults ≤ new.sink_faults
+  pub volume_later : old.faults ≤ new.faults
+  pub log_later : old.log_faults ≤ new.log_faults

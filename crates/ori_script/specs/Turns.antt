@@ -1,18 +1,16 @@
 -- One line of a script: how it was answered.
-use Rattle.std.specs.Prelude.{◌≡◌, ◌⊎◌, ℕ, List, [], ◌++◌, IsTrue, IsSome, Option, Some, None}
+use Rattle.std.specs.Prelude.{◌≡◌, ◌⊎◌, ℕ, List, [], ◌++◌, Option}
 use Rattle.ori_volume.specs.Disk.{Files}
 use Rattle.ori_volume.specs.Streams.{Gave}
-use Rattle.ori_spec.specs.Base.{EntryData}
-use Rattle.ori_spec.specs.Line.{LineData}
-use Rattle.ori_spec.specs.Reply.{AnswerData, answer_text, tells_fault}
-use Rattle.ori_spec.specs.Run.{RunData}
+use Rattle.ori_spec_texts.specs.Line.{LineData}
+use Rattle.ori_spec_texts.specs.Reply.{AnswerData, answer_text}
 use Rattle.ori_text.specs.declared.line.LineFault.{LineFault}
 use Rattle.ori_text.specs.declared.line.LineFault.TheVariants as faults
 use Rattle.ori_text.specs.Lines.{Reading}
 use Rattle.ori_script.specs.declared.run.Turn.{Turn}
 use Rattle.ori_script.specs.declared.run.Turn.TheVariants.{Answered, Ended}
-use Rattle.ori_script.specs.Keeping.{KeptData, Keeps, IsStepped, StaysHalted}
-use Rattle.ori_script.specs.Script.{IsRun, GoesOn}
+use Rattle.ori_script.specs.Keeping.{KeptData, IsStepped}
+use Rattle.ori_script.specs.Script.{GoesOn, HasEnded}
 
 -- the status of a run that a fault of a line ends
 abbrev pub fault_status : LineFault → ℕ
@@ -27,23 +25,20 @@ IsPrinted Answered unprinted = unprinted ≡ []
 IsPrinted (Ended status) unprinted = (status ≡ 2) ⊎ (status ≡ 4)
 
 -- A line was run, and of its answer's text a part from the front was given.
-pub record IsAnsweredTo (old_kept : KeptData) (line : LineData) (taken_old taken_new : Option (List ℕ)) (turn : Turn) (kept : KeptData) : Type 0 where
+pub record IsAnsweredTo (old : KeptData) (line : LineData) (taken_old taken_new : Option (List ℕ)) (turn : Turn)
+    (new : KeptData) : Type 0 where
   pub answer : AnswerData
-  pub stepped : (run : RunData) → Keeps old_kept run → IsStepped run line answer kept
-  pub fault_told : IsTrue (tells_fault answer) → IsSome kept.state.halted
-  pub halted_stays : StaysHalted old_kept.state.halted kept.state.halted
+  pub stepped : IsStepped old line answer new
   pub output : List ℕ
   pub unprinted : List ℕ
   pub text : answer_text answer ≡ output ++ unprinted
   pub gave : Gave taken_old taken_new output
   pub printed : IsPrinted turn unprinted
 
--- the history that is kept: the entries since the opening
-abbrev pub history_in : Option (List EntryData) → List EntryData
-history_in None = []
-history_in (Some entries) = entries
-
 -- After a line the run goes on, or it has ended.
-abbrev pub IsTurned : Option Files → Option (List ℕ) → Option (List ℕ) → Option (List ℕ) → Option (List ℕ) → Reading → KeptData → Turn → Type 0
-IsTurned files left_old left_new taken_old taken_new reading kept Answered = GoesOn files left_old left_new taken_old taken_new reading kept
-IsTurned files left_old left_new taken_old taken_new reading kept (Ended status) = IsRun files left_old left_new taken_old taken_new status (history_in kept.state.feed) kept.state.doubt kept.state.halted
+abbrev pub IsTurned : Option Files → Option (List ℕ) → Option (List ℕ) → Option (List ℕ) → Option (List ℕ) → Reading
+    → KeptData → Turn → Type 0
+IsTurned files left_old left_new taken_old taken_new reading kept Answered =
+    GoesOn files left_old left_new taken_old taken_new reading kept
+IsTurned files left_old left_new taken_old taken_new reading kept (Ended status) =
+    HasEnded files left_old left_new taken_old taken_new status kept.store

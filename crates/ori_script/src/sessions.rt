@@ -15,14 +15,15 @@ pub struct Sessions {
 }
 
 impl Sessions {
-    ghost use Rattle.std.specs.Prelude.{◌≡◌, ◌≤◌, Option, None, IfOk, replicate};
+    ghost use Rattle.std.specs.Prelude.{◌≡◌, ◌≤◌, IfOk, replicate};
     ghost use Rattle.ori_bytes.specs.declared.limits.TheConstants.{MAX_SESSIONS};
-    ghost use Rattle.ori_volume.specs.Story.{Story};
-    ghost use Rattle.ori_script.specs.Keeping.{open_in, IsDone};
+    ghost use Rattle.ori_spec_runs.specs.Answer.{closed};
+    ghost use Rattle.ori_model.specs.Standing.{Endures};
+    ghost use Rattle.ori_script.specs.Keeping.{sessions_of, IsDone};
 
     /// Sessions with nothing open.
     pub fn new(alloc: Global) -> Result<Sessions, NoMemory>
-        ensures { IfOk result (λ s. open_in s ≡ replicate MAX_SESSIONS None) }
+        ensures { IfOk result (λ s. sessions_of s ≡ replicate MAX_SESSIONS closed) }
     {
         let mut list = Vec::with_capacity(alloc, usize::from(MAX_SESSIONS))?;
         for place in 0..MAX_SESSIONS {
@@ -41,8 +42,9 @@ impl Sessions {
     ) -> Reply
         requires first { 1 ≤ session }
         requires last { session ≤ MAX_SESSIONS }
-        ensures done { IsDone session (K.state keeper.old) (K.state keeper.new) (K.causes keeper.old) (K.causes keeper.new) (K.view keeper.old) text.now (open_in self.old) result (open_in self.new) }
-        ensures sound { (first : Option Story) → K.sound keeper.old first → K.sound keeper.new first }
+        ensures done { IsDone session (K.state keeper.old) (K.state keeper.new) (K.causes keeper.old)
+            (K.causes keeper.new) (K.view keeper.old) text.now (sessions_of self.old) result (sessions_of self.new) }
+        ensures endures { Endures K.sound K.lent K.below keeper.old keeper.new }
     {
         let place = usize::from(session) - 1;
         self.list[place].exec(alloc, keeper, text)

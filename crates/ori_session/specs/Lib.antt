@@ -1,5 +1,6 @@
 pub mod Statements
 pub mod Sessions
+pub mod Fronts
 pub mod Reads
 pub mod Rows
 pub mod Commits

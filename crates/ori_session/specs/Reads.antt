@@ -1,24 +1,27 @@
 -- What a read step does with a statement.
-use Rattle.std.specs.Prelude.{◌≡◌, ◌⊎◌, ℕ, List, [], ◌∷◌, Option, Some, None, option_map, Result, Ok, Err, IsTrue, IfSome, if◌then◌else◌}
+use Rattle.std.specs.Prelude.{◌≡◌, ◌⊎◌, ℕ, List, Option, Some, None, option_map, Err, IsTrue, IfSome, if◌then◌else◌}
 use Rattle.ori_bytes.specs.declared.rid.Rid.{Rid}
 use Rattle.ori_bytes.specs.declared.causes.Causes.{Causes}
-use Rattle.ori_spec.specs.Base.{RecordData, ChangeData, TxData}
-use Rattle.ori_spec.specs.Apply.{HasOwnFields}
-use Rattle.ori_spec.specs.Statement.{StatementData, is_field_name, IsStatement, record_at}
-use Rattle.ori_spec.specs.Reply.{ReplyData, refused, unbuilt}
-use Rattle.ori_spec.specs.Staging.{IsNameable}
-use Rattle.ori_spec.specs.Views.{ViewData, are_real}
-use Rattle.ori_spec.specs.Answer.{seen, MeaningData, answered, turned, pending, alone, joined, meaning}
+use Rattle.ori_spec_data.specs.Base.{TxData}
+use Rattle.ori_spec_data.specs.Apply.{HasOwnFields}
+use Rattle.ori_spec_data.specs.Records.{record_at}
+use Rattle.ori_spec_data.specs.Replies.{ReplyData, refused, unbuilt}
+use Rattle.ori_spec_data.specs.Staging.{IsNameable}
+use Rattle.ori_spec_data.specs.Views.{ViewData, are_real}
+use Rattle.ori_spec_texts.specs.Statement.{StatementData, is_field_name, IsStatement}
+use Rattle.ori_spec_runs.specs.Answer.{seen, SessionData, MeaningData, answered, turned, pending, meaning}
 use Rattle.ori_model.specs.declared.record.Stored.{Stored}
 use Rattle.ori_model.specs.declared.fault.ReadFault.{ReadFault}
 use Rattle.ori_model.specs.Data.{record_of}
 use Rattle.ori_model.specs.Reading.{read_counted, MayFail}
 use Rattle.ori_model.specs.Replies.{read_refusal, reply_of}
 use Rattle.ori_session.specs.declared.hand.Statement.{Statement}
-use Rattle.ori_session.specs.declared.hand.Statement.TheVariants.{Insert, Select, Update, DeleteVertex, Begin, Commit, Rollback}
+use Rattle.ori_session.specs.declared.hand.Statement.TheVariants.{Insert, Select, Update, DeleteVertex, Begin, Commit}
+use Rattle.ori_session.specs.declared.hand.Statement.TheVariants.{Rollback}
 use Rattle.ori_session.specs.declared.stage.Stage.{Stage}
 use Rattle.ori_session.specs.declared.stage.Stage.TheVariants.{Answered, Commits}
 use Rattle.ori_session.specs.Sessions.{joined_by, CanCommit, pending_of, front_of}
+use Rattle.ori_session.specs.Fronts.{fronts_in, read_alone}
 
 -- the names that a statement sets are such as it may write
 abbrev pub IsNamed : Statement → Type 0
@@ -35,39 +38,36 @@ abbrev pub told_real : Option ViewData → Option ViewData
 told_real None = None
 told_real (Some view) = if are_real view.records then Some view else None
 
--- a fact about the records of a view, where it tells real ones
-abbrev pub WhereReal : Option ViewData → (List RecordData → Type 0) → Type 0
-WhereReal view P = IfSome view (λ shown. IsTrue (are_real shown.records) → P shown.records)
+-- a fact about a view, where it tells real records
+abbrev pub WhereReal : Option ViewData → (ViewData → Type 0) → Type 0
+WhereReal view P = IfSome view (λ shown. IsTrue (are_real shown.records) → P shown)
 
 -- the record with the identifier that the session sees
 abbrev pub IsSeen : Option ViewData → Option TxData → Rid → Option Stored → Type 0
-IsSeen view current rid found = WhereReal view (λ records. option_map record_of found ≡ record_at (seen records current) rid)
+IsSeen view current rid found =
+    WhereReal view (λ shown. option_map record_of found ≡ record_at (seen shown.records current) rid)
 
 -- a record that a statement may change
 abbrev pub IsChangeable : Option TxData → Rid → Stored → Type 0
-IsChangeable current rid stored = (stored.rid ≡ rid) × HasOwnFields stored.fields × IsNameable (joined_by current).changes rid
+IsChangeable current rid stored =
+    (stored.rid ≡ rid) × HasOwnFields stored.fields × IsNameable (joined_by current).changes rid
 
--- what changes mean to a session that has this open
-abbrev pub changed_by : Option TxData → List ChangeData → MeaningData
-changed_by None cs = alone cs
-changed_by (Some tx) cs = joined tx cs
-
--- the stage is what is meant, and the session has open what that leaves
-abbrev pub IsStage : MeaningData → Option TxData → Stage → Option TxData → Type 0
+-- the stage is what is meant, and what is kept of the session is what that leaves
+abbrev pub IsStage : MeaningData → SessionData → Stage → SessionData → Type 0
 IsStage (answered said) old (Answered reply) new = (reply_of reply ≡ said) × (new ≡ old)
 IsStage (answered said) old (Commits left) new = ⊥
-IsStage (turned said current) old (Answered reply) new = (reply_of reply ≡ said) × (new ≡ current)
-IsStage (turned said current) old (Commits left) new = ⊥
+IsStage (turned said kept) old (Answered reply) new = (reply_of reply ≡ said) × (new ≡ kept)
+IsStage (turned said kept) old (Commits left) new = ⊥
 IsStage (pending p) old (Answered reply) new = ⊥
 IsStage (pending p) old (Commits left) new = (pending_of old left ≡ p) × (new ≡ old)
 
--- the reply's front, or that of what is left, is this one
+-- the reply's one front, or that of what is left, is this one
 abbrev pub HasFront : ℕ → Stage → Type 0
-HasFront front (Answered reply) = (reply.read_front ≡ front) × (reply.commit_front ≡ None)
+HasFront front (Answered reply) = fronts_in reply ≡ read_alone front
 HasFront front (Commits left) = front_of left ≡ front
 
--- what is left can be committed, and until then what the session has open stays
-abbrev pub CanGoOn : Option TxData → Stage → Option TxData → Type 0
+-- what is left can be committed, and until then what is kept of the session stays
+abbrev pub CanGoOn : SessionData → Stage → SessionData → Type 0
 CanGoOn old (Answered reply) new = Unit {0}
 CanGoOn old (Commits left) new = CanCommit new left × (new ≡ old)
 
@@ -84,13 +84,17 @@ pub record IsReadFault (view : Option ViewData) (causes_old causes_new : Causes)
   pub counted : causes_new ≡ read_counted {T = Unit {0}} (Err fault) causes_old
 
 -- the statement is refused before it means anything
-abbrev pub IsRefusedRead : Option ViewData → List ℕ → Causes → Causes → Option TxData → Stage → Option TxData → Type 0
+abbrev pub IsRefusedRead : Option ViewData → List ℕ → Causes → Causes → SessionData → Stage → SessionData → Type 0
 IsRefusedRead view text causes_old causes_new old (Answered reply) new =
-    ((IsUnbuilt text (reply_of reply) × (causes_new ≡ causes_old)) ⊎ IsReadFault view causes_old causes_new (reply_of reply)) × (new ≡ old)
+    ((IsUnbuilt text (reply_of reply) × (causes_new ≡ causes_old))
+    ⊎ IsReadFault view causes_old causes_new (reply_of reply))
+    × (new ≡ old)
 IsRefusedRead view text causes_old causes_new old (Commits left) new = ⊥
 
--- The text is refused, or it is a statement, and the stage is what this means over the records of the view, where those are real.
-abbrev pub Reads : Option ViewData → List ℕ → Causes → Causes → Option TxData → Stage → Option TxData → Type 0
+-- The text is refused, or it is a statement, and the stage is what this means over the view, where its records are
+-- real.
+abbrev pub Reads : Option ViewData → List ℕ → Causes → Causes → SessionData → Stage → SessionData → Type 0
 Reads view text causes_old causes_new old stage new =
     IsRefusedRead view text causes_old causes_new old stage new
-    ⊎ ((s : StatementData) × IsStatement text s × WhereReal view (λ records. IsStage (meaning records old s) old stage new) × (causes_new ≡ causes_old))
+    ⊎ ((s : StatementData) × IsStatement text s
+    × WhereReal view (λ shown. IsStage (meaning shown old s) old stage new) × (causes_new ≡ causes_old))

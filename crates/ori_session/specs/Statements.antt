@@ -1,10 +1,12 @@
 -- The plain data that the parser's statements stand for.
-use Rattle.ori_spec.specs.Value.{Tree, integer, long, str, link}
-use Rattle.ori_spec.specs.Statement.{StatementData, inserts, selects, updates, deletes_vertex, begins, commits, rolls_back}
+use Rattle.ori_spec_data.specs.Value.{Tree, integer, long, str, link}
+use Rattle.ori_spec_texts.specs.Statement.{StatementData, inserts, selects, updates, deletes_vertex, begins, commits}
+use Rattle.ori_spec_texts.specs.Statement.{rolls_back}
 use Rattle.ori_session.specs.declared.hand.Literal.{Literal}
 use Rattle.ori_session.specs.declared.hand.Literal.TheVariants.{Quoted, Small, Large, Link}
 use Rattle.ori_session.specs.declared.hand.Statement.{Statement}
-use Rattle.ori_session.specs.declared.hand.Statement.TheVariants.{Insert, Select, Update, DeleteVertex, Begin, Commit, Rollback}
+use Rattle.ori_session.specs.declared.hand.Statement.TheVariants.{Insert, Select, Update, DeleteVertex, Begin, Commit}
+use Rattle.ori_session.specs.declared.hand.Statement.TheVariants.{Rollback}
 
 abbrev pub literal_of : Literal → Tree
 literal_of (Quoted text) = str text.now

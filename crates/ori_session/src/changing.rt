@@ -1,18 +1,20 @@
-// What a statement changes, and what becomes of its changes: they join the open transaction, or are left to be committed.
-ghost use Rattle.std.specs.Prelude.{◌≡◌, ◌++◌, ◌∷◌, [], List, Some, None, map, IfOk, OnOk, OnErr, codes};
-ghost use Rattle.ori_spec.specs.Value.{pair, no_pairs};
-ghost use Rattle.ori_spec.specs.Base.{RecordData, create, update};
-ghost use Rattle.ori_spec.specs.Apply.{temporary};
-ghost use Rattle.ori_spec.specs.Fields.{put};
-ghost use Rattle.ori_spec.specs.Staging.{CanStage, staged, no_tx};
-ghost use Rattle.ori_spec.specs.Views.{created_of};
-ghost use Rattle.ori_spec.specs.Answer.{alone, joined, meaning};
-ghost use Rattle.ori_spec.specs.Statement.{begins, commits, rolls_back};
+// What a statement changes, and what becomes of its changes: they join the open transaction, or are left to be
+// committed.
+ghost use Rattle.std.specs.Prelude.{◌≡◌, ◌++◌, ◌∷◌, [], Some, None, map, IfOk, OnOk, OnErr, codes};
+ghost use Rattle.ori_spec_data.specs.Value.{pair, no_pairs};
+ghost use Rattle.ori_spec_data.specs.Base.{create, update};
+ghost use Rattle.ori_spec_data.specs.Apply.{temporary};
+ghost use Rattle.ori_spec_data.specs.Fields.{put};
+ghost use Rattle.ori_spec_data.specs.Staging.{CanStage};
+ghost use Rattle.ori_spec_data.specs.Views.{ViewData, created_of};
+ghost use Rattle.ori_spec_texts.specs.Statement.{begins, commits, rolls_back};
+ghost use Rattle.ori_spec_runs.specs.Answer.{rids_of, planned, plan_of, made_in, SessionData, with_open};
+ghost use Rattle.ori_spec_runs.specs.Answer.{alone, joined, changed, meaning};
 ghost use Rattle.ori_model.specs.Data.{change_of, tx_of};
 ghost use Rattle.ori_session.specs.declared.stage.Stage.TheVariants.{Answered};
 ghost use Rattle.ori_session.specs.Statements.{literal_of};
-ghost use Rattle.ori_session.specs.Sessions.{current_of, made_of, joined_by, rids_of, MakesFlat};
-ghost use Rattle.ori_session.specs.Reads.{changed_by, IsStage, HasFront, CanGoOn};
+ghost use Rattle.ori_session.specs.Sessions.{current_of, data_of, joined_by, plan_data, IsPlanned};
+ghost use Rattle.ori_session.specs.Reads.{IsStage, HasFront, CanGoOn};
 
 use crate::hand::Literal;
 use crate::replies::{granted, refused};
@@ -40,7 +42,8 @@ pub fn creation(
     name: &str,
     value: Literal<'_>,
 ) -> Result<Change, NoMemory>
-    ensures { IfOk result (λ c. change_of c ≡ create temp (codes "V") (pair name.now (literal_of value.entry) no_pairs)) }
+    ensures { IfOk result (λ c. change_of c
+        ≡ create temp (codes "V") (pair name.now (literal_of value.entry) no_pairs)) }
 {
     let mut fields = FieldList::new(alloc);
     fields.set(Text::from_str(alloc, name)?, written(alloc, value)?)?;
@@ -58,7 +61,8 @@ pub fn with_field(
     name: &str,
     value: Literal<'_>,
 ) -> Result<Change, NoMemory>
-    ensures { IfOk result (λ c. change_of c ≡ update stored.rid stored.version (put name.now (literal_of value.entry) stored.fields)) }
+    ensures { IfOk result (λ c. change_of c
+        ≡ update stored.rid stored.version (put name.now (literal_of value.entry) stored.fields)) }
 {
     let mut fields = stored.fields;
     fields.set(Text::from_str(alloc, name)?, written(alloc, value)?)?;
@@ -92,48 +96,50 @@ fn add_temp(rids: &mut RidList, change: &Change) -> Result<(), NoMemory>
     }
 }
 
-// Changes outside a transaction are left to be committed.
-fn leave(alloc: Global, front: u64, changes: ChangeList) -> Result<Stage, NoMemory>
-    requires can { CanStage (joined_by None) (map change_of changes) }
-    requires flat { MakesFlat (staged no_tx (map change_of changes)).changes }
-    ensures stage { IfOk result (λ stage. IsStage (alone (map change_of changes)) None stage None) }
-    ensures left { IfOk result (λ stage. CanGoOn None stage None) }
-    ensures front { IfOk result (HasFront front) }
+// What a statement's changes come to.
+fn planned(alloc: Global, changes: ChangeList) -> Result<Plan, NoMemory>
+    ensures { IfOk result (λ plan. plan_data plan ≡ plan_of (map change_of changes)) }
 {
-    let count = changes.as_slice().len() as u64;
-    if count == 0 {
-        return Ok(Stage::Answered(granted(alloc, RowList::new(alloc), 0, front)));
-    }
     let rows = temps_of(alloc, changes.as_slice())?;
-    let plan = Plan {
+    let count = changes.as_slice().len() as u64;
+    Ok(Plan {
         changes,
         rows,
         count,
-    };
-    Ok(Stage::Commits(Pending::Tx { plan, front }))
+    })
 }
 
-// Changes inside a transaction join it.
-fn join(
-    alloc: Global,
-    front: u64,
-    buffer: &mut TxBuffer,
-    changes: &ChangeList,
-) -> Result<Reply, NoMemory>
-    requires { CanStage (tx_of buffer.old) (map change_of changes.now) }
-    ensures ok { IfOk result (λ reply. IsStage (joined (tx_of buffer.old) (map change_of changes.now)) (Some (tx_of buffer.old)) (Answered reply) (Some (tx_of buffer.new))) }
+// A plan outside a transaction is left to be committed; one of no change is answered at once.
+fn leave(alloc: Global, front: u64, plan: Plan) -> Stage
+    requires { IsPlanned (plan_data plan) }
+    ensures stage { (kept : SessionData) → IsStage (alone (plan_data plan)) kept result kept }
+    ensures left { (kept : SessionData) → kept.transaction ≡ None → CanGoOn kept result kept }
+    ensures front { HasFront front result }
+{
+    if plan.changes.as_slice().len() == 0 {
+        return Stage::Answered(granted(alloc, RowList::new(alloc), plan.count, front));
+    }
+    Stage::Commits(Pending::Tx { plan, front })
+}
+
+// The changes of a plan inside a transaction join it.
+fn join(alloc: Global, front: u64, buffer: &mut TxBuffer, plan: &Plan) -> Result<Reply, NoMemory>
+    requires { CanStage (tx_of buffer.old) (plan_data plan.now).changes }
+    ensures ok { IfOk result (λ reply. (kept : SessionData) → IsStage
+        (joined kept (tx_of buffer.old) (plan_data plan.now)) kept (Answered reply)
+        (with_open kept (Some (tx_of buffer.new)))) }
     ensures err { OnErr result (buffer.new ≡ buffer.old) }
     ensures front { IfOk result (λ reply. HasFront front (Answered reply)) }
 {
-    let rows = rows_as(alloc, 0, changes.as_slice())?;
-    buffer.stage(changes)?;
-    Ok(granted(alloc, rows, changes.as_slice().len() as u64, front))
+    let rows = rows_as(alloc, 0, plan.changes.as_slice())?;
+    buffer.stage(&plan.changes)?;
+    Ok(granted(alloc, rows, plan.count, front))
 }
 
 impl Session {
     // The temporary identifier that the session's next new record is to have.
     pub(crate) fn next_temp(&self) -> Rid
-        ensures { result ≡ temporary (made_of (current_of self.now)) }
+        ensures { result ≡ temporary (made_in (current_of self.now)) }
     {
         match &self.current {
             None => Rid {
@@ -151,23 +157,26 @@ impl Session {
         front: u64,
         changes: ChangeList,
     ) -> Result<Stage, NoMemory>
-        requires can { CanStage (joined_by (current_of self.old)) (map change_of changes) }
-        requires flat { MakesFlat (staged no_tx (map change_of changes)).changes }
-        ensures stage { IfOk result (λ stage. IsStage (changed_by (current_of self.old) (map change_of changes)) (current_of self.old) stage (current_of self.new)) }
-        ensures left { IfOk result (λ stage. CanGoOn (current_of self.old) stage (current_of self.new)) }
+        requires { CanStage (joined_by (current_of self.old)) (map change_of changes) }
+        ensures stage { IfOk result (λ stage. IsStage
+            (changed (data_of self.old) (current_of self.old) (planned (plan_of (map change_of changes))))
+            (data_of self.old) stage (data_of self.new)) }
+        ensures left { IfOk result (λ stage. CanGoOn (data_of self.old) stage (data_of self.new)) }
         ensures front { IfOk result (HasFront front) }
         ensures err { OnErr result (self.new ≡ self.old) }
         ensures number { self.new.number ≡ self.old.number }
     {
+        let plan = planned(alloc, changes)?;
         match &mut self.current {
-            None => leave(alloc, front, changes),
-            Some(buffer) => Ok(Stage::Answered(join(alloc, front, buffer, &changes)?)),
+            None => Ok(leave(alloc, front, plan)),
+            Some(buffer) => Ok(Stage::Answered(join(alloc, front, buffer, &plan)?)),
         }
     }
 
     // BEGIN.
     pub(crate) fn begun(&mut self, alloc: Global, front: u64) -> Reply
-        ensures stage { (records : List RecordData) → IsStage (meaning records (current_of self.old) begins) (current_of self.old) (Answered result) (current_of self.new) }
+        ensures stage { (view : ViewData) → IsStage (meaning view (data_of self.old) begins) (data_of self.old)
+            (Answered result) (data_of self.new) }
         ensures front { HasFront front (Answered result) }
         ensures number { self.new.number ≡ self.old.number }
     {
@@ -182,8 +191,9 @@ impl Session {
 
     // COMMIT. A transaction without changes ends at once.
     pub(crate) fn ended(&mut self, alloc: Global, front: u64) -> Stage
-        ensures stage { (records : List RecordData) → IsStage (meaning records (current_of self.old) commits) (current_of self.old) result (current_of self.new) }
-        ensures left { CanGoOn (current_of self.old) result (current_of self.new) }
+        ensures stage { (view : ViewData) → IsStage (meaning view (data_of self.old) commits) (data_of self.old)
+            result (data_of self.new) }
+        ensures left { CanGoOn (data_of self.old) result (data_of self.new) }
         ensures front { HasFront front result }
         ensures number { self.new.number ≡ self.old.number }
     {
@@ -201,7 +211,8 @@ impl Session {
 
     // ROLLBACK.
     pub(crate) fn rolled_back(&mut self, alloc: Global, front: u64) -> Reply
-        ensures stage { (records : List RecordData) → IsStage (meaning records (current_of self.old) rolls_back) (current_of self.old) (Answered result) (current_of self.new) }
+        ensures stage { (view : ViewData) → IsStage (meaning view (data_of self.old) rolls_back) (data_of self.old)
+            (Answered result) (data_of self.new) }
         ensures front { HasFront front (Answered result) }
         ensures number { self.new.number ≡ self.old.number }
     {

@@ -4,8 +4,9 @@ ghost use Rattle.std.specs.List.{list_any, list_all};
 ghost use Rattle.std.specs.Str.{bytes_eq};
 ghost use Rattle.std.specs.Char.{to_ascii_lowercase};
 ghost use Rattle.ori_bytes.specs.declared.rid.Rid.{Rid};
-ghost use Rattle.ori_spec.specs.Value.{Tree};
-ghost use Rattle.ori_spec.specs.Statement.{StatementData, is_digit, is_keyword, is_reserved, is_field_name, is_plain, IsDigits, IsLink, IsLiteral, IsSetting, IsStatement};
+ghost use Rattle.ori_spec_data.specs.Value.{Tree};
+ghost use Rattle.ori_spec_texts.specs.Statement.{StatementData, is_digit, is_keyword, is_reserved, is_field_name};
+ghost use Rattle.ori_spec_texts.specs.Statement.{is_plain, IsDigits, IsLink, IsLiteral, IsSetting, IsStatement};
 ghost use Rattle.ori_session.specs.Statements.{literal_of, statement_of};
 
 use ori_bytes::Rid;
@@ -13,7 +14,7 @@ use ori_bytes::limits::MAX_NAME_BYTES;
 use ori_text::{after, is_word, read_link, split_at_space};
 
 /// A value as a statement writes it.
-#[derive(Clone, Copy, Debug, Drop)]
+#[derive(Clone, Copy, Drop)]
 pub enum Literal<'a> {
     /// Text in single quotes, without a quote or a backslash.
     Quoted(&'a str),
@@ -26,7 +27,7 @@ pub enum Literal<'a> {
 }
 
 /// A statement, as far as statements can be written so far.
-#[derive(Clone, Copy, Debug, Drop)]
+#[derive(Clone, Copy, Drop)]
 pub enum Statement<'a> {
     /// `INSERT INTO V SET <name> = <value>`.
     Insert {
@@ -146,8 +147,10 @@ fn read_word(text: &str) -> Option<Statement<'_>>
 // The name and the value of an INSERT.
 fn read_insert(text: &str) -> Option<(&str, Literal<'_>)>
     ensures { MatchOption result
-        ((name : List ℕ) (value : Tree) (setting : List ℕ) → IsSetting setting name value → text.now ≢ codes "INSERT INTO V SET " ++ setting)
-        (λ s. (setting : List ℕ) × IsSetting setting s.0.now (literal_of s.1) × (text.now ≡ codes "INSERT INTO V SET " ++ setting)) }
+        ((name : List ℕ) (value : Tree) (setting : List ℕ) → IsSetting setting name value
+        → text.now ≢ codes "INSERT INTO V SET " ++ setting)
+        (λ s. (setting : List ℕ) × IsSetting setting s.0.now (literal_of s.1)
+        × (text.now ≡ codes "INSERT INTO V SET " ++ setting)) }
 {
     read_setting(after(text, "INSERT INTO V SET ")?)
 }
@@ -155,9 +158,10 @@ fn read_insert(text: &str) -> Option<(&str, Literal<'_>)>
 // The identifier, the name and the value of an UPDATE.
 fn read_update(text: &str) -> Option<(Rid, &str, Literal<'_>)>
     ensures { MatchOption result
-        ((rid : Rid) (name : List ℕ) (value : Tree) (link_text setting : List ℕ) → IsLink link_text rid → IsSetting setting name value
-        → text.now ≢ codes "UPDATE " ++ link_text ++ codes " SET " ++ setting)
-        (λ u. (link_text : List ℕ) × (setting : List ℕ) × IsLink link_text u.0 × IsSetting setting u.1.now (literal_of u.2)
+        ((rid : Rid) (name : List ℕ) (value : Tree) (link_text setting : List ℕ) → IsLink link_text rid
+        → IsSetting setting name value → text.now ≢ codes "UPDATE " ++ link_text ++ codes " SET " ++ setting)
+        (λ u. (link_text : List ℕ) × (setting : List ℕ) × IsLink link_text u.0
+        × IsSetting setting u.1.now (literal_of u.2)
         × (text.now ≡ codes "UPDATE " ++ link_text ++ codes " SET " ++ setting)) }
 {
     let (link, rest) = split_at_space(after(text, "UPDATE ")?)?;

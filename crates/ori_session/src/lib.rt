@@ -1,5 +1,5 @@
-//! What a session does with the text of a statement: it answers it over the records that the session sees, or commits what it
-//! changes.
+//! What a session does with the text of a statement: it answers it over the records that the session sees, or commits
+//! what it changes.
 #![tactic(auto)]
 
 mod changing;
@@ -7,7 +7,6 @@ mod committing;
 mod exec;
 mod hand;
 mod reading;
-mod renaming;
 mod replies;
 mod rows;
 mod session;
@@ -15,6 +14,3 @@ mod stage;
 
 pub use session::Session;
 pub use stage::{Pending, Stage};
-
-#[cfg(test)]
-mod tests;

@@ -1,20 +1,20 @@
 // The read step of a statement: what it means over the records that the session sees.
-ghost use Rattle.ori_volume.specs.Story.{Story};
-ghost use Rattle.std.specs.Prelude.{◌≡◌, List, Option, Some, map, length, IsTrue, IfOk, IfErr, IfSome, OnErr};
+ghost use Rattle.std.specs.Prelude.{◌≡◌, ◌≤◌, List, Some, map, IsTrue, IfOk, IfErr, IfSome, OnErr};
 ghost use Rattle.ori_bytes.specs.declared.rid.Rid.{Rid};
-ghost use Rattle.ori_spec.specs.Apply.{is_temporary, IsFormed};
-ghost use Rattle.ori_spec.specs.Base.{RecordData};
-ghost use Rattle.ori_spec.specs.Statement.{is_field_name, inserts, updates, deletes_vertex, rows_at};
-ghost use Rattle.ori_spec.specs.Staging.{CanStage, staged, no_tx};
-ghost use Rattle.ori_spec.specs.Answer.{seen, changes_by, meaning};
-ghost use Rattle.ori_spec.specs.Reply as spec;
+ghost use Rattle.ori_spec_data.specs.Base.{RecordData};
+ghost use Rattle.ori_spec_data.specs.Apply.{IsFormed};
+ghost use Rattle.ori_spec_data.specs.Keeping.{raised_count};
+ghost use Rattle.ori_spec_data.specs.Staging.{CanStage};
+ghost use Rattle.ori_spec_texts.specs.Statement.{is_field_name, inserts, updates, deletes_vertex};
+ghost use Rattle.ori_spec_runs.specs.Answer.{made_in, seen, changes_by, selected, meaning};
 ghost use Rattle.ori_model.specs.Data.{change_of, tx_of};
 ghost use Rattle.ori_model.specs.Reading.{read_counted, MayFail};
-ghost use Rattle.ori_model.specs.Replies.{reply_of};
+ghost use Rattle.ori_model.specs.Standing.{IsUnchanged};
 ghost use Rattle.ori_session.specs.declared.stage.Stage.TheVariants.{Answered};
 ghost use Rattle.ori_session.specs.Statements.{literal_of, statement_of};
-ghost use Rattle.ori_session.specs.Sessions.{current_of, made_of, joined_by, is_hidden_by, is_hidden, MakesFlat};
-ghost use Rattle.ori_session.specs.Reads.{told_real, IsNamed, WhereReal, IsSeen, IsChangeable, IsStage, HasFront, CanGoOn, Reads};
+ghost use Rattle.ori_session.specs.Sessions.{current_of, data_of, joined_by, is_hidden_by, is_hidden};
+ghost use Rattle.ori_session.specs.Reads.{told_real, IsNamed, WhereReal, IsSeen, IsChangeable};
+ghost use Rattle.ori_session.specs.Reads.{IsStage, HasFront, CanGoOn, Reads};
 
 use crate::changing::{creation, single, with_field};
 use crate::hand::{Literal, Statement, read_statement};
@@ -22,16 +22,10 @@ use crate::replies::{granted, read_refusal, refused};
 use crate::rows::whole_row;
 use crate::{Session, Stage};
 use ori_bytes::{NoMemory, Rid};
+use ori_decide::is_temporary;
 use ori_model::{Change, ChangeList, ReadFault, Reader, Refusal, Reply, RowList, Stored};
 use ori_txn::{TxBuffer, TxReader};
 use std::alloc::Global;
-
-// Whether an identifier is one that a transaction gives to a new record.
-fn is_temporary(rid: Rid) -> bool
-    ensures { result ≡ is_temporary rid }
-{
-    rid.cluster == -1 && rid.position < -1
-}
 
 // Whether a change takes a record away.
 fn is_deletion(change: &Change) -> bool
@@ -57,8 +51,8 @@ fn is_hidden_in(buffer: &TxBuffer, rid: Rid) -> bool
 }
 
 impl Session {
-    // Whether no statement of the session can name a record: it has deleted it, or the identifier is a temporary one that it
-    // hasn't given out. A reader need not know.
+    // Whether no statement of the session can name a record: it has deleted it, or the identifier is a temporary one
+    // that it hasn't given out. A reader need not know.
     fn hides(&self, rid: Rid) -> bool
         ensures hidden { result ≡ is_hidden (current_of self.now) rid }
         ensures formed { IfSome (current_of self.now) IsFormed }
@@ -75,11 +69,8 @@ impl Session {
         ensures own { IfOk result (λ found. IfSome found (IsChangeable (current_of self.now) rid)) }
         ensures fault { IfErr result (MayFail (told_real (R.view reader.old))) }
         ensures causes { R.causes reader.new ≡ read_counted result (R.causes reader.old) }
-        ensures view { R.view reader.new ≡ R.view reader.old }
-        ensures state { R.state reader.new ≡ R.state reader.old }
-        ensures lent { R.lent reader.new ≡ R.lent reader.old }
-        ensures below { R.below reader.new ≡ R.below reader.old }
-        ensures sound { (first : Option Story) → R.sound reader.old first → R.sound reader.new first }
+        ensures same { IsUnchanged R.view R.state R.sound R.lent R.below reader.old reader.new }
+        ensures one_record { R.fetched reader.new ≤ raised_count (R.fetched reader.old) }
     {
         if self.hides(rid) {
             return Ok(None);
@@ -98,9 +89,9 @@ impl Session {
         value: Literal<'_>,
     ) -> Result<ChangeList, NoMemory>
         requires { IsTrue (is_field_name name.now) }
-        ensures are { IfOk result (λ cs. (records : List RecordData) → map change_of cs ≡ changes_by records (made_of (current_of self.now)) (inserts name.now (literal_of value.entry))) }
+        ensures are { IfOk result (λ cs. (records : List RecordData) → map change_of cs
+            ≡ changes_by records (made_in (current_of self.now)) (inserts name.now (literal_of value.entry))) }
         ensures can { IfOk result (λ cs. CanStage (joined_by (current_of self.now)) (map change_of cs)) }
-        ensures flat { IfOk result (λ cs. MakesFlat (staged no_tx (map change_of cs)).changes) }
     {
         let change = creation(alloc, self.next_temp(), name, value)?;
         single(alloc, change)
@@ -116,17 +107,14 @@ impl Session {
         value: Literal<'_>,
     ) -> Result<ChangeList, ReadFault>
         requires { IsTrue (is_field_name name.now) }
-        ensures are { IfOk result (λ cs. WhereReal (R.view reader.old) (λ records.
-            map change_of cs ≡ changes_by (seen records (current_of self.now)) (made_of (current_of self.now)) (updates rid name.now (literal_of value.entry)))) }
+        ensures are { IfOk result (λ cs. WhereReal (R.view reader.old) (λ shown. map change_of cs
+            ≡ changes_by (seen shown.records (current_of self.now)) (made_in (current_of self.now))
+            (updates rid name.now (literal_of value.entry)))) }
         ensures can { IfOk result (λ cs. CanStage (joined_by (current_of self.now)) (map change_of cs)) }
-        ensures flat { IfOk result (λ cs. MakesFlat (staged no_tx (map change_of cs)).changes) }
         ensures fault { IfErr result (MayFail (told_real (R.view reader.old))) }
         ensures causes { R.causes reader.new ≡ read_counted result (R.causes reader.old) }
-        ensures view { R.view reader.new ≡ R.view reader.old }
-        ensures state { R.state reader.new ≡ R.state reader.old }
-        ensures lent { R.lent reader.new ≡ R.lent reader.old }
-        ensures below { R.below reader.new ≡ R.below reader.old }
-        ensures sound { (first : Option Story) → R.sound reader.old first → R.sound reader.new first }
+        ensures same { IsUnchanged R.view R.state R.sound R.lent R.below reader.old reader.new }
+        ensures one_record { R.fetched reader.new ≤ raised_count (R.fetched reader.old) }
     {
         match self.find(reader, rid)? {
             None => Ok(ChangeList::new(alloc)),
@@ -144,17 +132,14 @@ impl Session {
         reader: &mut R,
         rid: Rid,
     ) -> Result<ChangeList, ReadFault>
-        ensures are { IfOk result (λ cs. WhereReal (R.view reader.old) (λ records.
-            map change_of cs ≡ changes_by (seen records (current_of self.now)) (made_of (current_of self.now)) (deletes_vertex rid))) }
+        ensures are { IfOk result (λ cs. WhereReal (R.view reader.old) (λ shown. map change_of cs
+            ≡ changes_by (seen shown.records (current_of self.now)) (made_in (current_of self.now))
+            (deletes_vertex rid))) }
         ensures can { IfOk result (λ cs. CanStage (joined_by (current_of self.now)) (map change_of cs)) }
-        ensures flat { IfOk result (λ cs. MakesFlat (staged no_tx (map change_of cs)).changes) }
         ensures fault { IfErr result (MayFail (told_real (R.view reader.old))) }
         ensures causes { R.causes reader.new ≡ read_counted result (R.causes reader.old) }
-        ensures view { R.view reader.new ≡ R.view reader.old }
-        ensures state { R.state reader.new ≡ R.state reader.old }
-        ensures lent { R.lent reader.new ≡ R.lent reader.old }
-        ensures below { R.below reader.new ≡ R.below reader.old }
-        ensures sound { (first : Option Story) → R.sound reader.old first → R.sound reader.new first }
+        ensures same { IsUnchanged R.view R.state R.sound R.lent R.below reader.old reader.new }
+        ensures one_record { R.fetched reader.new ≤ raised_count (R.fetched reader.old) }
     {
         match self.find(reader, rid)? {
             None => Ok(ChangeList::new(alloc)),
@@ -176,16 +161,14 @@ impl Session {
         reader: &mut R,
         rid: Rid,
     ) -> Result<Reply, ReadFault>
-        ensures reply { IfOk result (λ reply. WhereReal (R.view reader.old) (λ records.
-            reply_of reply ≡ spec.granted (rows_at (seen records (current_of self.now)) rid) (length (rows_at (seen records (current_of self.now)) rid)))) }
+        ensures reply { IfOk result (λ reply. WhereReal (R.view reader.old) (λ shown. IsStage
+            (selected (seen shown.records (current_of self.now)) rid) (data_of self.now) (Answered reply)
+            (data_of self.now))) }
         ensures front { IfOk result (λ reply. HasFront front (Answered reply)) }
         ensures fault { IfErr result (MayFail (told_real (R.view reader.old))) }
         ensures causes { R.causes reader.new ≡ read_counted result (R.causes reader.old) }
-        ensures view { R.view reader.new ≡ R.view reader.old }
-        ensures state { R.state reader.new ≡ R.state reader.old }
-        ensures lent { R.lent reader.new ≡ R.lent reader.old }
-        ensures below { R.below reader.new ≡ R.below reader.old }
-        ensures sound { (first : Option Story) → R.sound reader.old first → R.sound reader.new first }
+        ensures same { IsUnchanged R.view R.state R.sound R.lent R.below reader.old reader.new }
+        ensures one_record { R.fetched reader.new ≤ raised_count (R.fetched reader.old) }
     {
         match self.find(reader, rid)? {
             None => Ok(granted(alloc, RowList::new(alloc), 0, front)),
@@ -206,19 +189,17 @@ impl Session {
         statement: Statement<'_>,
     ) -> Result<Stage, ReadFault>
         requires { IsNamed statement }
-        ensures stage { IfOk result (λ stage. WhereReal (R.view reader.old) (λ records.
-            IsStage (meaning records (current_of self.old) (statement_of statement.entry)) (current_of self.old) stage (current_of self.new))) }
-        ensures left { IfOk result (λ stage. CanGoOn (current_of self.old) stage (current_of self.new)) }
+        ensures stage { IfOk result (λ stage. WhereReal (R.view reader.old) (λ shown. IsStage
+            (meaning shown (data_of self.old) (statement_of statement.entry)) (data_of self.old) stage
+            (data_of self.new))) }
+        ensures left { IfOk result (λ stage. CanGoOn (data_of self.old) stage (data_of self.new)) }
         ensures front { IfOk result (HasFront front) }
         ensures err { OnErr result (self.new ≡ self.old) }
         ensures number { self.new.number ≡ self.old.number }
         ensures fault { IfErr result (MayFail (told_real (R.view reader.old))) }
         ensures causes { R.causes reader.new ≡ read_counted result (R.causes reader.old) }
-        ensures view { R.view reader.new ≡ R.view reader.old }
-        ensures state { R.state reader.new ≡ R.state reader.old }
-        ensures lent { R.lent reader.new ≡ R.lent reader.old }
-        ensures below { R.below reader.new ≡ R.below reader.old }
-        ensures sound { (first : Option Story) → R.sound reader.old first → R.sound reader.new first }
+        ensures same { IsUnchanged R.view R.state R.sound R.lent R.below reader.old reader.new }
+        ensures one_record { R.fetched reader.new ≤ raised_count (R.fetched reader.old) }
     {
         match statement {
             Statement::Insert { name, value } => {
@@ -242,9 +223,10 @@ impl Session {
         }
     }
 
-    /// Reads a statement and does what it means, up to a commit: over the records that the reader shows, with the changes of
-    /// the open transaction. A text that is no statement is answered `Unbuilt`. A fault of the reader and want of memory are
-    /// answered too. After each refusal what the session has open is as before. The front is that of what the reader shows.
+    /// Reads a statement and does what it means, up to a commit: over the records that the reader shows, with the
+    /// changes of the open transaction. A text that is no statement is answered `Unbuilt`. A fault of the reader and
+    /// want of memory are answered too. After each refusal what is kept of the session is as before. The front is
+    /// that of what the reader shows. At most one record is fetched.
     pub fn read_step<R: Reader>(
         &mut self,
         alloc: Global,
@@ -252,15 +234,13 @@ impl Session {
         reader: &mut R,
         text: &str,
     ) -> Stage
-        ensures reads { Reads (R.view reader.old) text.now (R.causes reader.old) (R.causes reader.new) (current_of self.old) result (current_of self.new) }
-        ensures left { CanGoOn (current_of self.old) result (current_of self.new) }
+        ensures reads { Reads (R.view reader.old) text.now (R.causes reader.old) (R.causes reader.new)
+            (data_of self.old) result (data_of self.new) }
+        ensures left { CanGoOn (data_of self.old) result (data_of self.new) }
         ensures front { HasFront front result }
         ensures number { self.new.number ≡ self.old.number }
-        ensures view { R.view reader.new ≡ R.view reader.old }
-        ensures state { R.state reader.new ≡ R.state reader.old }
-        ensures lent { R.lent reader.new ≡ R.lent reader.old }
-        ensures below { R.below reader.new ≡ R.below reader.old }
-        ensures sound { (first : Option Story) → R.sound reader.old first → R.sound reader.new first }
+        ensures same { IsUnchanged R.view R.state R.sound R.lent R.below reader.old reader.new }
+        ensures one_record { R.fetched reader.new ≤ raised_count (R.fetched reader.old) }
     {
         match read_statement(text) {
             None => Stage::Answered(refused(alloc, Refusal::Unbuilt, front)),

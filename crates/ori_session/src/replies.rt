@@ -1,7 +1,8 @@
 // Replies without a commit.
-ghost use Rattle.std.specs.Prelude.{◌≡◌, None, map};
-ghost use Rattle.ori_spec.specs.Reply as spec;
+ghost use Rattle.std.specs.Prelude.{◌≡◌, map};
+ghost use Rattle.ori_spec_data.specs.Replies as spec;
 ghost use Rattle.ori_model.specs.Replies.{refusal_of, read_refusal, reply_of, row_of};
+ghost use Rattle.ori_session.specs.Fronts.{fronts_in, read_alone};
 
 use ori_model::{ReadFault, Refusal, Reply, RidPairList, RowList};
 use std::alloc::Global;
@@ -9,8 +10,7 @@ use std::alloc::Global;
 // Rows and their count; takes no memory.
 pub fn granted(alloc: Global, rows: RowList, count: u64, front: u64) -> Reply
     ensures reply { reply_of result ≡ spec.granted (map row_of rows) count }
-    ensures read_front { result.read_front ≡ front }
-    ensures commit_front { result.commit_front ≡ None }
+    ensures fronts { fronts_in result ≡ read_alone front }
 {
     Reply {
         rows,
@@ -24,8 +24,7 @@ pub fn granted(alloc: Global, rows: RowList, count: u64, front: u64) -> Reply
 // A refusal; takes no memory.
 pub fn refused(alloc: Global, why: Refusal, front: u64) -> Reply
     ensures reply { reply_of result ≡ spec.refused (refusal_of why) }
-    ensures read_front { result.read_front ≡ front }
-    ensures commit_front { result.commit_front ≡ None }
+    ensures fronts { fronts_in result ≡ read_alone front }
 {
     Reply {
         rows: RowList::new(alloc),

@@ -1,6 +1,6 @@
 // Records as rows.
 ghost use Rattle.std.specs.Prelude.{◌≡◌, ◌++◌, ◌∷◌, [], map, IfOk, OnOk};
-ghost use Rattle.ori_spec.specs.Statement as spec;
+ghost use Rattle.ori_spec_texts.specs.Statement as spec;
 ghost use Rattle.ori_value.specs.View.{tree_of};
 ghost use Rattle.ori_model.specs.Data.{record_of, change_of};
 ghost use Rattle.ori_model.specs.Replies.{row_of};

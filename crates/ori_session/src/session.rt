@@ -1,10 +1,12 @@
 // Sessions.
 ghost use Rattle.std.specs.Prelude.{◌≡◌, None, is_some};
-ghost use Rattle.ori_session.specs.Sessions.{current_of};
+ghost use Rattle.ori_spec_runs.specs.Answer.{closed, with_open};
+ghost use Rattle.ori_session.specs.Sessions.{data_of};
 
 use ori_txn::TxBuffer;
 
-/// A session: its number, and the transaction that it has open, if any. A contract sees that as `current_of`.
+/// A session: its number, and the transaction that it has open, if any. A contract sees what is kept of it as
+/// `data_of`.
 #[derive(Drop)]
 pub struct Session {
     pub(crate) number: u8,
@@ -15,7 +17,7 @@ impl Session {
     /// A session with nothing open; takes no memory.
     pub fn new(number: u8) -> Self
         ensures number { result.number ≡ number }
-        ensures nothing { current_of result ≡ None }
+        ensures nothing { data_of result ≡ closed }
     {
         Session {
             number,
@@ -25,7 +27,7 @@ impl Session {
 
     /// Whether a transaction is open.
     pub fn in_transaction(&self) -> bool
-        ensures { result ≡ is_some (current_of self.now) }
+        ensures { result ≡ is_some (data_of self.now).transaction }
     {
         self.current.is_some()
     }
@@ -33,7 +35,7 @@ impl Session {
     /// Lets an open transaction go; takes no memory.
     pub fn rollback(&mut self)
         ensures number { self.new.number ≡ self.old.number }
-        ensures nothing { current_of self.new ≡ None }
+        ensures nothing { data_of self.new ≡ with_open (data_of self.old) None }
     {
         self.current = None;
     }

@@ -1,9 +1,8 @@
-pub mod Walks
 pub mod Finding
 pub mod Laying
-pub mod Giving
 pub mod Imaging
 pub mod StagingOne
 pub mod StagingAll
 pub mod Sorting
-pub mod Looking
+pub mod Written
+pub mod LaidOut

@@ -1,8 +1,8 @@
 -- What each table of rows keeps.
 use Rattle.std.specs.Prelude.{◌<◌, List, [], ◌∷◌, length, map, option_map, Option, Some, None, ⊤}
 use Rattle.ori_bytes.specs.declared.limits.TheConstants.{MAX_PAGES}
-use Rattle.ori_spec.specs.Base.{RecordData}
-use Rattle.ori_spec.specs.Apply.{HasOwnFields}
+use Rattle.ori_spec_data.specs.Base.{RecordData}
+use Rattle.ori_spec_data.specs.Apply.{HasOwnFields}
 use Rattle.ori_model.specs.declared.record.Stored.{Stored}
 use Rattle.ori_model.specs.Data.{record_of}
 use Rattle.ori_rows.specs.Rows.{AreAt}

@@ -1,10 +1,10 @@
 -- A transaction that was staged over rows.
 use Rattle.std.specs.Prelude.{◌≡◌, ◌+◌, ◌<◌, ◌≤◌, List, length, Option, None}
 use Rattle.ori_bytes.specs.declared.limits.TheConstants.{MAX_WEIGHT, MAX_POSITIONS}
-use Rattle.ori_spec.specs.Base.{RecordData, TxData}
-use Rattle.ori_spec.specs.Apply.{fresh, apply_tx}
-use Rattle.ori_spec.specs.Weighing.{weight, pages_changed}
-use Rattle.ori_spec.specs.Refusing.{refusal}
+use Rattle.ori_spec_data.specs.Base.{RecordData, TxData}
+use Rattle.ori_spec_data.specs.Apply.{fresh, apply_tx}
+use Rattle.ori_spec_data.specs.Weighing.{weight, pages_changed}
+use Rattle.ori_spec_data.specs.Refusing.{refusal}
 use Rattle.ori_log.specs.Images.{AreRising}
 use Rattle.ori_table.specs.declared.stage.Staged.{Staged}
 use Rattle.ori_rows.specs.Rows.{base_with}
@@ -23,7 +23,7 @@ pub record IsStaged (rows : List (Option RecordData)) (tx : TxData) (staged : St
   pub made : base_with (rows_with rows staged) ≡ apply_tx (base_with rows) tx
   pub changes : Changes rows (rows_with rows staged) staged.images
   pub count : length staged.images ≡ pages_changed tx.changes
-  pub some : 0 < length staged.images
+  pub some : 0 < length tx.changes → 0 < length staged.images
   pub few : length staged.images ≤ MAX_WEIGHT
   pub rising : AreRising 0 staged.images
   pub in_use : length (rows_with rows staged) ≤ length rows + weight (base_with rows) tx

@@ -2,7 +2,8 @@
 ghost use Rattle.std.specs.Prelude.{◌≡◌, ◌+◌, ◌-◌, ◌<◌, ◌≤◌, ◌++◌, [], ◌∷◌, length, Some, if◌then◌else◌, IfOk, OnOk};
 ghost use Rattle.std.specs.List.{AllByRecursion};
 ghost use Rattle.ori_bytes.specs.declared.limits.TheConstants.{MAX_PAGES};
-ghost use Rattle.ori_spec.specs.Stage.{page_head, head_page, record_page, IsPageOf};
+ghost use Rattle.ori_page.specs.Pages.{page_head};
+ghost use Rattle.ori_rows.specs.Stage.{head_page, record_page, IsPageOf};
 ghost use Rattle.ori_log.specs.Images.{image_data};
 ghost use Rattle.ori_model.specs.Data.{record_of};
 ghost use Rattle.ori_table.specs.Kept.{row_of};

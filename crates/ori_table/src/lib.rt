@@ -1,12 +1,8 @@
 //! The records of a database in memory, by their positions, and what a transaction makes of them.
 #![tactic(auto)]
 
-mod given;
 mod images;
-mod links;
 mod outcome;
-mod rules;
-mod sizes;
 mod stage;
 mod table;
 
@@ -14,6 +10,3 @@ pub use images::{head_page, record_page};
 pub use outcome::Outcome;
 pub use stage::Staged;
 pub use table::Table;
-
-#[cfg(test)]
-mod tests;

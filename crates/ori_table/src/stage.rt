@@ -1,48 +1,25 @@
 // A transaction is staged: why a table's base refuses it, or what it makes of the rows.
-ghost use Rattle.std.specs.Prelude.{◌≡◌, ◌+◌, ◌<◌, ◌≤◌, ◌^◌, [], ◌∷◌, map, IfOk, OnOk};
-ghost use Rattle.std.specs.List.{AllByRecursion};
-ghost use Rattle.ori_bytes.specs.declared.limits.TheConstants.{MAX_PAGES};
-ghost use Rattle.ori_spec.specs.Apply.{IsFormed, full_cluster};
-ghost use Rattle.ori_spec.specs.Refusing.{first_refused, too_large_of, or_else, full_of, too_heavy, refusal};
-ghost use Rattle.ori_model.specs.Data.{change_of, tx_of};
-ghost use Rattle.ori_table.specs.Kept.{rows_of};
-ghost use Rattle.ori_rows.specs.Rows.{records_of, base_with};
+ghost use Rattle.std.specs.Prelude.{◌≡◌, ◌∷◌, [], None, IfOk, OnOk};
+ghost use Rattle.ori_spec_data.specs.Apply.{IsFormed};
+ghost use Rattle.ori_spec_data.specs.Refusing.{refusal};
+ghost use Rattle.ori_model.specs.Data.{tx_of};
+ghost use Rattle.ori_rows.specs.Rows.{base_with};
 ghost use Rattle.ori_rows.specs.Outcomes.{put_all_in};
-ghost use Rattle.ori_rows.specs.Outcomes as spec;
-ghost use Rattle.ori_table.specs.Links.{IsRenaming};
-ghost use Rattle.ori_table.specs.Told.{Answers};
-ghost use Rattle.ori_table.specs.Data.{outcome_data, outcomes_data};
+ghost use Rattle.ori_decide.specs.Told.{Answers};
+ghost use Rattle.ori_table.specs.Data.{outcomes_data};
+ghost use Rattle.ori_table.specs.Kept.{rows_of};
 
-use crate::given::give_all;
 use crate::images::images_of;
-use crate::links::Renaming;
-use crate::outcome::target_of;
-use crate::rules::check_rules;
-use crate::sizes::{row_size, weigh};
+use crate::outcome::outcomes_of;
 use crate::{Outcome, Table};
-use ori_bytes::limits::{BASE_WEIGHT, MAX_POSITIONS, MAX_RECORD_BYTES, MAX_WEIGHT};
-use ori_bytes::{NoMemory, RidList};
+use ori_bytes::{NoMemory, NumberList, RidList};
+use ori_decide::{Decided, decide};
 use ori_log::ImageList;
-use ori_model::{Change, CommitFault, Tx};
+use ori_model::{CommitFault, Tx};
 use std::alloc::Global;
 
-/// What is staged so far: outcomes, what they weigh, and the next position.
-#[derive(Drop)]
-pub struct Work {
-    pub outcomes: Vec<Outcome>,
-    pub weight: u64,
-    pub next: u64,
-}
-
-/// A change's outcome, and what the change weighs.
-#[derive(Drop)]
-pub struct One {
-    pub outcome: Outcome,
-    pub weight: u64,
-}
-
-/// A transaction that the base accepts: its outcomes in the order of their positions, the images of their pages, and the
-/// identifiers of its new records.
+/// A transaction that the base accepts: its outcomes in the order of their positions, the images of their pages, and
+/// the identifiers of its new records.
 #[derive(Drop)]
 pub struct Staged {
     pub outcomes: Vec<Outcome>,
@@ -58,152 +35,60 @@ fn sort_by_place(outcomes: &mut Vec<Outcome>) -> Result<(), NoMemory>
     Ok(())
 }
 
-// The next position behind a change.
-fn next_by(change: &Change, next: u64) -> u64
-    requires { next < 2 ^ 62 }
-    ensures { result ≡ spec.next_by next (change_of change.now) }
+// The next positions of both clusters, where cluster 1 has given so many.
+fn next_list(alloc: Global, given: u64) -> Result<NumberList, NoMemory>
+    ensures { IfOk result (λ next. next ≡ given ∷ 0 ∷ []) }
 {
-    match change {
-        Change::Create { .. } => next + 1,
-        Change::Update { .. } => next,
-        Change::Delete { .. } => next,
-        Change::Touch { .. } => next,
-    }
-}
-
-impl Work {
-    ghost use Rattle.ori_table.specs.Staging.{AddsOne};
-
-    // Adds a change's outcome. There is no memory for a weight past the end of a u64.
-    fn add(&mut self, change: &Change, one: One) -> Result<(), NoMemory>
-        requires { self.old.next < 2 ^ 62 }
-        ensures { OnOk result (AddsOne self.old self.new (change_of change.now) (outcome_data one.outcome) one.weight) }
-    {
-        let One { outcome, weight } = one;
-        let Some(total) = self.weight.checked_add(weight) else {
-            return Err(NoMemory);
-        };
-        self.outcomes.push(outcome)?;
-        self.weight = total;
-        self.next = next_by(change, self.next);
-        Ok(())
-    }
-}
-
-// Cluster 1 has room for as many positions, and the transaction isn't too heavy.
-fn check_room(next: u64, weight: u64) -> Result<(), CommitFault>
-    ensures { Answers (or_else (full_of (full_cluster 1 (next ∷ 0 ∷ []))) (too_heavy weight)) result }
-{
-    if next > MAX_POSITIONS {
-        return Err(CommitFault::ClusterFull { cluster: 1 });
-    }
-    if weight > MAX_WEIGHT {
-        return Err(CommitFault::TxTooLarge { weight });
-    }
-    Ok(())
+    let mut next = NumberList::new(alloc);
+    next.push(given)?;
+    next.push(0)?;
+    Ok(next)
 }
 
 impl Table {
-    ghost use Rattle.ori_table.specs.Staging.{CanStage, IsStagedOne, IsListed, IsWork};
+    ghost use Rattle.ori_decide.specs.Deciding.{IsDecided};
     ghost use Rattle.ori_table.specs.Staged.{IsStaged};
 
-    // A change's outcome, and what it weighs. RecordTooLarge where the record would be.
-    fn stage_one(
-        &self,
-        alloc: Global,
-        change: &Change,
-        pairs: &[Renaming],
-        next: u64,
-    ) -> Result<One, CommitFault>
-        requires can { CanStage (rows_of self.now.0) (change_of change.now) }
-        requires next { next < 2 ^ 62 }
-        requires renaming { IsRenaming pairs.now }
-        ensures answers { Answers (too_large_of (records_of (rows_of self.now.0)) pairs.now (change_of change.now)) result }
-        ensures staged { IfOk result (λ p. IsStagedOne pairs.now (rows_of self.now.0) next (change_of change.now) (outcome_data p.outcome) p.weight) }
+    // What the base of the rows decides on a transaction.
+    fn decide(&self, alloc: Global, tx: &Tx) -> Result<Decided, CommitFault>
+        requires { IsFormed (tx_of tx.now) }
+        ensures answers { Answers (refusal (base_with (rows_of self.now.0)) (tx_of tx.now)) result }
+        ensures decided { IfOk result (IsDecided (base_with (rows_of self.now.0)) (tx_of tx.now)) }
+    {
+        let next = next_list(alloc, self.len())?;
+        decide(alloc, self.schema().classes.as_slice(), &next, self, tx)
+    }
+
+    // The outcomes of a transaction that was decided, and their images. Memory is wanting for values of the kinds that
+    // no statement writes yet.
+    fn laid_out(&self, alloc: Global, tx: &Tx, decided: Decided) -> Result<Staged, NoMemory>
+        requires formed { IsFormed (tx_of tx.now) }
+        requires allowed { refusal (base_with (rows_of self.now.0)) (tx_of tx.now) ≡ None }
+        requires decided { IsDecided (base_with (rows_of self.now.0)) (tx_of tx.now) decided }
+        ensures { IfOk result (IsStaged (rows_of self.now.0) (tx_of tx.now)) }
     {
         self.keeps();
-        let outcome = self.outcome(alloc, change, pairs, next)?;
-        let size = row_size(&outcome.row)?;
-        if size > MAX_RECORD_BYTES {
-            return Err(CommitFault::RecordTooLarge {
-                rid: target_of(change),
-                bytes: size,
-            });
-        }
-        let old = self.old_size(change)?;
-        let weight = weigh(old, size);
-        Ok(One { outcome, weight })
+        let _ = &tx.made;
+        let len = self.len();
+        let next = len + decided.fresh.as_slice().len() as u64;
+        let mut outcomes = outcomes_of(alloc, decided.written)?;
+        sort_by_place(&mut outcomes)?;
+        let images = images_of(alloc, len < next, next as u32 + 1, &outcomes)?;
+        Ok(Staged {
+            outcomes,
+            images,
+            fresh: decided.fresh,
+        })
     }
 
-    // The outcomes of all changes in the changes' order, and what the transaction weighs.
-    fn stage_each(
-        &self,
-        alloc: Global,
-        changes: &[Change],
-        pairs: &[Renaming],
-        next: u64,
-    ) -> Result<Work, CommitFault>
-        requires can { AllByRecursion (CanStage (rows_of self.now.0)) (map change_of changes.now) }
-        requires next { next < MAX_PAGES }
-        requires renaming { IsRenaming pairs.now }
-        ensures answers { Answers (first_refused (too_large_of (records_of (rows_of self.now.0)) pairs.now) (map change_of changes.now)) result }
-        ensures work { IfOk result (IsListed pairs.now (rows_of self.now.0) next (map change_of changes.now)) }
-    {
-        let mut work = Work {
-            outcomes: Vec::new(alloc),
-            weight: BASE_WEIGHT,
-            next,
-        };
-        for change in changes {
-            let one = self.stage_one(alloc, change, pairs, work.next)?;
-            work.add(change, one)?;
-        }
-        Ok(work)
-    }
-
-    // The same in the order of the positions.
-    fn stage_all(
-        &self,
-        alloc: Global,
-        changes: &[Change],
-        pairs: &[Renaming],
-        next: u64,
-    ) -> Result<Work, CommitFault>
-        requires can { AllByRecursion (CanStage (rows_of self.now.0)) (map change_of changes.now) }
-        requires next { next < MAX_PAGES }
-        requires renaming { IsRenaming pairs.now }
-        ensures answers { Answers (first_refused (too_large_of (records_of (rows_of self.now.0)) pairs.now) (map change_of changes.now)) result }
-        ensures work { IfOk result (IsWork pairs.now (rows_of self.now.0) next (map change_of changes.now)) }
-    {
-        let mut work = self.stage_each(alloc, changes, pairs, next)?;
-        sort_by_place(&mut work.outcomes)?;
-        Ok(work)
-    }
-
-    /// Stages a transaction, or says why the base refuses it. Memory is also wanting for a transaction that makes a record of
-    /// class E, for one with values of the kinds that no statement writes yet, and for one without changes.
+    /// Stages a transaction, or says why the base refuses it. Memory is also wanting for one with values of the kinds
+    /// that no statement writes yet. One without changes has no outcome and no image.
     pub fn stage(&self, alloc: Global, tx: &Tx) -> Result<Staged, CommitFault>
         requires { IsFormed (tx_of tx.now) }
         ensures answers { Answers (refusal (base_with (rows_of self.now.0)) (tx_of tx.now)) result }
         ensures staged { IfOk result (IsStaged (rows_of self.now.0) (tx_of tx.now)) }
     {
-        self.keeps();
-        let changes = tx.changes.as_slice();
-        let len = self.len();
-        self.check_conflicts(changes)?;
-        check_rules(alloc, changes)?;
-        let given = give_all(alloc, changes, len)?;
-        let work = self.stage_all(alloc, changes, &given.pairs, len)?;
-        check_room(given.next, work.weight)?;
-        if changes.is_empty() {
-            return Err(CommitFault::NoMemory);
-        }
-        let makes = len < given.next;
-        let images = images_of(alloc, makes, given.next as u32 + 1, &work.outcomes)?;
-        Ok(Staged {
-            outcomes: work.outcomes,
-            images,
-            fresh: given.fresh,
-        })
+        let decided = self.decide(alloc, tx)?;
+        Ok(self.laid_out(alloc, tx, decided)?)
     }
 }

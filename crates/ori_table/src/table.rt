@@ -1,30 +1,28 @@
 // The records of cluster 1 in memory, by their positions.
-ghost use Rattle.std.specs.Prelude.{◌≡◌, ◌+◌, ◌<◌, ◌≤◌, ◌++◌, [], ◌∷◌, ℕ, List, None, get_or, length, option_map, vec_len, vec_capacity, IfOk, IfSome, OnOk, OnErr};
+ghost use Rattle.std.specs.Prelude.{◌≡◌, ◌+◌, ◌<◌, ◌≤◌, ◌++◌, [], ◌∷◌, ℕ, List, None, get_or, length, option_map};
+ghost use Rattle.std.specs.Prelude.{vec_len, vec_capacity, IfOk, IfSome, OnOk, OnErr};
 ghost use Rattle.ori_bytes.specs.declared.limits.TheConstants.{MAX_PAGES};
-ghost use Rattle.ori_spec.specs.Base.{initial_base};
-ghost use Rattle.ori_spec.specs.Apply.{rid_at, HasOwnFields};
-ghost use Rattle.ori_spec.specs.Statement.{record_at};
-ghost use Rattle.ori_spec.specs.Refusing.{version_at, is_version, conflict_at, conflict_of, first_refused};
-ghost use Rattle.ori_model.specs.Data.{schema_of, record_of, change_of};
+ghost use Rattle.ori_spec_data.specs.Base.{initial_base};
+ghost use Rattle.ori_spec_data.specs.Apply.{rid_at, HasOwnFields};
+ghost use Rattle.ori_spec_data.specs.Records.{record_at};
+ghost use Rattle.ori_model.specs.Data.{schema_of, record_of};
 ghost use Rattle.std.specs.Prelude.{map, MatchOption};
 ghost use Rattle.ori_rows.specs.Rows.{records_of};
 ghost use Rattle.ori_table.specs.Kept.{row_of, rows_of, AreKept};
-ghost use Rattle.ori_table.specs.Told.{Answers};
 
 use crate::Outcome;
 use ori_bytes::{NoMemory, Rid, Text};
-use ori_model::{
-    Change, Class, ClassList, CommitFault, IndexDefList, PropertyList, Schema, Stored,
-};
+use ori_decide::Records;
+use ori_model::{Class, ClassList, IndexDefList, PropertyList, Schema, Stored};
 use std::alloc::Global;
 use std::marker::Model;
 
 // The cluster of class V.
 const FIRST_CLUSTER: i16 = 1;
 
-/// The records of cluster 1 by their positions, under the schema of a new database. A contract sees the list of the positions,
-/// each with its record or none, and for how many more a place is reserved.
-#[derive(Debug, Drop)]
+/// The records of cluster 1 by their positions, under the schema of a new database. A contract sees the list of the
+/// positions, each with its record or none, and for how many more a place is reserved.
+#[derive(Drop)]
 pub struct Table {
     schema: Schema,
     rows: Vec<Option<Stored>>,
@@ -33,7 +31,7 @@ pub struct Table {
 impl Model for Table {
     ghost use Rattle.std.specs.Prelude.{◌≡◌, ◌-◌, ℕ, List, Option, vec_len, vec_capacity};
     ghost use Rattle.std.specs.Coded.{coded_list, coded_option, coded×, coded_ℕ};
-    ghost use Rattle.ori_spec.specs.Base.{initial_base};
+    ghost use Rattle.ori_spec_data.specs.Base.{initial_base};
     ghost use Rattle.ori_model.specs.declared.record.Stored.{Stored};
     ghost use Rattle.ori_model.specs.contracts.record.Stored as stored;
     ghost use Rattle.ori_model.specs.Data.{schema_of};
@@ -84,16 +82,6 @@ fn place_of(rid: Rid) -> Option<u64>
         return None;
     }
     Some(rid.position as u64)
-}
-
-// Whether this version was found.
-fn is_version(version: u32, found: Option<u32>) -> bool
-    ensures { result ≡ is_version version found }
-{
-    match found {
-        Some(found) => found == version,
-        None => false,
-    }
 }
 
 impl Table {
@@ -162,52 +150,6 @@ impl Table {
         }
     }
 
-    // The version of the record with an identifier.
-    fn version_at(&self, rid: Rid) -> Option<u32>
-        ensures { result ≡ version_at (records_of (rows_of self.now.0)) rid }
-    {
-        match self.find(rid) {
-            Some(stored) => Some(stored.version),
-            None => None,
-        }
-    }
-
-    // A record that is to be changed is there with the version that the transaction has seen.
-    fn check_version(&self, rid: Rid, version: u32) -> Result<(), CommitFault>
-        ensures { Answers (conflict_at (records_of (rows_of self.now.0)) rid version) result }
-    {
-        let found = self.version_at(rid);
-        if is_version(version, found) {
-            return Ok(());
-        }
-        Err(CommitFault::Conflict {
-            rid,
-            expected: version,
-            found,
-        })
-    }
-
-    fn check_conflict(&self, change: &Change) -> Result<(), CommitFault>
-        ensures { Answers (conflict_of (records_of (rows_of self.now.0)) (change_of change.now)) result }
-    {
-        match change {
-            Change::Create { .. } => Ok(()),
-            Change::Update { rid, version, .. } => self.check_version(*rid, *version),
-            Change::Delete { rid, version } => self.check_version(*rid, *version),
-            Change::Touch { rid, version } => self.check_version(*rid, *version),
-        }
-    }
-
-    /// Each record that is to be changed is there with the version that the transaction has seen.
-    pub(crate) fn check_conflicts(&self, changes: &[Change]) -> Result<(), CommitFault>
-        ensures { Answers (first_refused (conflict_of (records_of (rows_of self.now.0))) (map change_of changes.now)) result }
-    {
-        for change in changes {
-            self.check_conflict(change)?;
-        }
-        Ok(())
-    }
-
     /// Reserves places for so many positions more.
     pub fn reserve(&mut self, more: usize) -> Result<(), NoMemory>
         ensures rows { self.new.0 ≡ self.old.0 }
@@ -251,5 +193,13 @@ impl Table {
         for outcome in outcomes {
             self.put(outcome);
         }
+    }
+}
+
+impl Records for Table {
+    ghost stored = { λ table. records_of (rows_of table.0) };
+
+    fn find(&self, rid: Rid) -> Option<&Stored> {
+        Table::find(self, rid)
     }
 }

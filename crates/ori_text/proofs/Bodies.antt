@@ -1,9 +1,10 @@
 -- Lines without their ends.
-use Rattle.std.proofs.Common.{◌≡◌, ◌≢◌, ℕ, ◌+◌, ◌≤◌, Bool, true, false, cond, List, [], ◌∷◌, ◌++◌, length, refl, ap, arith}
+use Rattle.std.proofs.Common.{◌≡◌, ◌≢◌, ℕ, ◌+◌, ◌≤◌, Bool, true, false, cond, List, [], ◌∷◌, ◌++◌, length, refl, ap}
+use Rattle.std.proofs.Common.{arith}
 use Rattle.std.specs.Prelude.{◌==◌}
 use Rattle.std.proofs.lemmas.Bool.{eq-eqb, ne_eqb, ltb-false}
 use Rattle.ori_bytes.specs.declared.limits.TheConstants.{MAX_LINE_BYTES}
-use Rattle.ori_spec.specs.Line.{without_last, body_of, is_too_long}
+use Rattle.ori_spec_texts.specs.Line.{without_last, body_of, is_too_long}
 
 pub without_last_same : (b : ℕ) (rest : List ℕ) → without_last b (rest ++ b ∷ []) ≡ rest
 without_last_same b [] = rw (eq-eqb b b refl) refl

@@ -1,5 +1,6 @@
 -- Texts that are cut at a byte: there is one way to cut at the first.
-use Rattle.std.proofs.Common.{◌≡◌, ◌≢◌, ℕ, suc, ◌<◌, List, [], ◌∷◌, ◌++◌, length, get_or, refl, ◌∙◌, ap, arith, Option, Some, None, MatchOption, Bor}
+use Rattle.std.proofs.Common.{◌≡◌, ◌≢◌, ℕ, suc, ◌<◌, List, [], ◌∷◌, ◌++◌, length, get_or, refl, ◌∙◌, ap, arith, Option}
+use Rattle.std.proofs.Common.{Some, None, MatchOption, Bor}
 use Rattle.std.specs.List.{AllByRecursion}
 use Rattle.std.proofs.lemmas.List.{get_or_at, length-append}
 use Rattle.std.proofs.lemmas.Str.Pattern.{IsSplitOnceResult, split_parts}
@@ -14,8 +15,11 @@ lacks_from_places c [] h = tt
 lacks_from_places c (x ∷ xs) h = (h 0 (omega arith), lacks_from_places c xs (λ i l. h (suc i) (omega arith)))
 
 pub is_cut : (c : ℕ) (text : List ℕ) (r : Option (Bor (List ℕ) × Bor (List ℕ))) → IsSplitOnceResult c text r → c < 128
-    → MatchOption r ((front rest : List ℕ) → text ≢ front ++ c ∷ rest) (λ parts. IsSplitAt c text parts.0.now parts.1.now)
-is_cut c text None h small = λ front rest e. split_parts c text None h small (length front) (omega (arith, length-append front (c ∷ rest), ap length e)) (ap (λ t. get_or t (length front) 0) e ∙ get_or_at front c rest 0 (length front) refl)
+    → MatchOption r ((front rest : List ℕ) → text ≢ front ++ c ∷ rest)
+    (λ parts. IsSplitAt c text parts.0.now parts.1.now)
+is_cut c text None h small = λ front rest e. split_parts c text None h small (length front)
+    (omega (arith, length-append front (c ∷ rest), ap length e))
+    (ap (λ t. get_or t (length front) 0) e ∙ get_or_at front c rest 0 (length front) refl)
 is_cut c text (Some parts) h small =
     let p = split_parts c text (Some parts) h small in
     (p.0, lacks_from_places c parts.0.now p.1)

@@ -1,11 +1,13 @@
 -- Readings of lines follow one another.
-use Rattle.std.proofs.Common.{◌≡◌, ◌≢◌, ℕ, ◌+◌, ◌≤◌, Bool, false, List, [], ◌∷◌, ◌++◌, length, refl, sym, ◌∙◌, ap, subst, inl, inr, arith, IsTrue, Option}
+use Rattle.std.proofs.Common.{◌≡◌, ◌≢◌, ℕ, ◌+◌, ◌≤◌, Bool, false, List, [], ◌∷◌, ◌++◌, length, refl, sym, ◌∙◌, ap}
+use Rattle.std.proofs.Common.{subst, inl, inr, arith, IsTrue, Option}
 use Rattle.std.specs.Prelude.{◌⊎◌}
 use Rattle.std.proofs.lemmas.Bool.{both_ways}
 use Rattle.std.proofs.lemmas.List.{append_assoc, append-nil, length-append}
 use Rattle.ori_bytes.specs.declared.limits.TheConstants.{MAX_INPUT_BYTES}
 use Rattle.ori_volume.proofs.Pieces.{took_nothing, took_more}
-use Rattle.ori_spec.specs.Line.{LineData, StopData, at_end, at_bad_line, at_limit, IsWholeLine, is_too_long, Reads}
+use Rattle.ori_spec_texts.specs.Line.{LineData, StopData, at_end, at_bad_line, at_limit, IsWholeLine, is_too_long}
+use Rattle.ori_spec_texts.specs.Line.{Reads}
 use Rattle.ori_text.specs.Lines.{Reading, joined, AreWhole, HasLast, Advances}
 use Rattle.ori_text.specs.LineReading.{Moves}
 use Rattle.ori_text.proofs.Splitting.{joined-append, AreWhole-append}
@@ -23,10 +25,12 @@ nothing_said : (first : LineData) (others : List LineData) → [] ≡ first ∷ 
 nothing_said first others e = cc
 
 -- the lines before the end of reading end within the limit
-pub reads_within : (at : ℕ) (xs : List (List ℕ)) (said : List LineData) → at ≤ MAX_INPUT_BYTES → Reads at xs said at_end → at + length (joined xs) ≤ MAX_INPUT_BYTES
+pub reads_within : (at : ℕ) (xs : List (List ℕ)) (said : List LineData) → at ≤ MAX_INPUT_BYTES → Reads at xs said at_end
+    → at + length (joined xs) ≤ MAX_INPUT_BYTES
 reads_within at [] said within p = omega arith
 reads_within at (x ∷ xs) said within p =
-    let here : at + length (x ++ joined xs) ≡ (at + length x) + length (joined xs) = omega (arith, length-append x (joined xs)) in
+    let here : at + length (x ++ joined xs) ≡ (at + length x) + length (joined xs) =
+    omega (arith, length-append x (joined xs)) in
     elim p [
       | inl skipped ↦ omega (arith, reads_within (at + length x) xs said skipped.0.within skipped.2)
       | inr others ↦ elim others [
@@ -69,13 +73,15 @@ no_whole (y ∷ ys) w e = absurd (whole_line_some y w.0 (empty_left y (joined ys
 
 no_last : (ended : Bool) (ys : List (List ℕ)) (held : List ℕ) → HasLast ended ys held → joined ys ≡ [] → ⊥
 no_last ended ys held l e =
-    let all : joined l.front ++ joined (l.last ∷ []) ≡ [] = sym (joined-append l.front (l.last ∷ [])) ∙ (sym (ap joined l.parts) ∙ e) in
+    let all : joined l.front ++ joined (l.last ∷ []) ≡ [] =
+    sym (joined-append l.front (l.last ∷ [])) ∙ (sym (ap joined l.parts) ∙ e) in
     let last_nil : l.last ++ [] ≡ [] = (empty_left (joined l.front) (joined (l.last ∷ [])) (sym all)).1 in
     let none : length l.last ≡ 0 = sym (ap length (append-nil l.last)) ∙ ap length last_nil in
     omega (arith, l.some)
 
 -- a line that is passed over isn't too long
-pub reads_short : (at : ℕ) (xs : List (List ℕ)) (last : List ℕ) → Reads at (xs ++ last ∷ []) [] at_end → is_too_long last ≡ false
+pub reads_short : (at : ℕ) (xs : List (List ℕ)) (last : List ℕ) → Reads at (xs ++ last ∷ []) [] at_end
+    → is_too_long last ≡ false
 reads_short at [] last p = elim p [
   | inl skipped ↦ skipped.0.short
   | inr others ↦ elim others [
@@ -105,15 +111,21 @@ reads_short at (x ∷ xs) last p = elim p [
 
 -- behind a last line that wasn't too long nothing comes
 last_stays : (at : ℕ) (b c : Reading) (others : List ℕ) (xs ys : List (List ℕ)) (said : List LineData) (stop : StopData)
-    → Reads at xs [] at_end → HasLast b.ended xs b.held → Advances b c others ys said stop → AreWhole (xs ++ ys) ⊎ HasLast c.ended (xs ++ ys) c.held
+    → Reads at xs [] at_end → HasLast b.ended xs b.held → Advances b c others ys said stop → AreWhole (xs ++ ys)
+    ⊎ HasLast c.ended (xs ++ ys) c.held
 last_stays at b c others xs ys said stop reads last q =
-    let short : is_too_long last.last ≡ false = reads_short at last.front last.last (subst (λ t. Reads at t [] at_end) last.parts reads) in
+    let short : is_too_long last.last ≡ false =
+    reads_short at last.front last.last (subst (λ t. Reads at t [] at_end) last.parts reads) in
     let ended : IsTrue b.ended = elim last.why [ inl e ↦ e | inr long ↦ absurd (both_ways _ short long) ] in
     let over = q.over ended in
     let nothing : [] ≡ joined ys ++ c.held =
     sym (ap (λ t. t ++ others) last.nothing_held ∙ over.0) ∙ q.parts in
     let both = empty_left (joined ys) c.held nothing in
-    let none : ys ≡ [] = elim q.whole [ inl whole ↦ no_whole ys whole both.0 | inr l ↦ absurd (no_last c.ended ys c.held l both.0) ] in
+    let none : ys ≡ [] = elim q.whole [
+      | inl whole ↦ no_whole ys whole both.0
+      | inr l ↦ absurd
+          (no_last c.ended ys c.held l both.0)
+    ] in
     inr (record {
       front = last.front;
       last = last.last;
@@ -125,8 +137,10 @@ last_stays at b c others xs ys said stop reads last q =
       why = inl over.1;
     })
 
-pub advance_more : (a b c : Reading) (more others : List ℕ) (xs ys : List (List ℕ)) (said : List LineData) (stop : StopData)
-    → Advances a b more xs [] at_end → Advances b c others ys said stop → Advances a c (more ++ others) (xs ++ ys) said stop
+pub advance_more : (a b c : Reading) (more others : List ℕ) (xs ys : List (List ℕ)) (said : List LineData)
+    (stop : StopData)
+    → Advances a b more xs [] at_end → Advances b c others ys said stop
+    → Advances a c (more ++ others) (xs ++ ys) said stop
 advance_more a b c more others xs ys said stop p q = record {
   parts =
       sym (append_assoc a.held more others)
@@ -160,7 +174,14 @@ advance_more a b c more others xs ys said stop p q = record {
 }
 
 pub no_move : (left : Option (List ℕ)) (r : Reading) → Moves left left r r [] at_end
-no_move left r = record { more = []; lines = []; took = took_nothing left; advances = no_advance r; source_end = λ before e. before e }
+no_move left r = record {
+  more = [];
+  lines = [];
+  took = took_nothing left;
+  advances = no_advance r;
+  source_end =
+      λ before e. before e;
+}
 
 pub move_more : (left_a left_b left_c : Option (List ℕ)) (a b c : Reading) (said : List LineData) (stop : StopData)
     → Moves left_a left_b a b [] at_end → Moves left_b left_c b c said stop → Moves left_a left_c a c said stop

@@ -1,12 +1,13 @@
 -- Any bytes are whole lines and less than one more.
 use Rattle.std.proofs.Common.{◌≡◌, ◌≢◌, ◌⊎◌, ℕ, List, [], ◌∷◌, ◌++◌, refl, sym, ap, ◌∙◌, append_assoc, inl, inr}
 use Rattle.std.proofs.lemmas.Bool.{cases_eq}
-use Rattle.ori_spec.specs.Line.{Splits}
+use Rattle.ori_spec_texts.specs.Line.{Splits}
 use Rattle.ori_text.specs.Lines.{joined, AreWhole}
 
 pub joined-append : (xs ys : List (List ℕ)) → joined (xs ++ ys) ≡ joined xs ++ joined ys
 joined-append [] ys = refl
-joined-append (x ∷ xs) ys = ap (λ (t : List ℕ). x ++ t) (joined-append xs ys) ∙ sym (append_assoc x (joined xs) (joined ys))
+joined-append (x ∷ xs) ys = ap (λ (t : List ℕ). x ++ t) (joined-append xs ys)
+    ∙ sym (append_assoc x (joined xs) (joined ys))
 
 pub AreWhole-append : (xs ys : List (List ℕ)) → AreWhole xs → AreWhole ys → AreWhole (xs ++ ys)
 AreWhole-append [] ys p q = q
@@ -18,7 +19,8 @@ pub record Parts (bytes : List ℕ) : Type 0 where
   pub splits : Splits bytes lines rest
 
 -- a byte in front of lines and a rest
-with_first : (b : ℕ) (bytes : List ℕ) (lines : List (List ℕ)) (rest : List ℕ) → Splits bytes lines rest → (b ≡ 10) ⊎ (b ≢ 10) → Parts (b ∷ bytes)
+with_first : (b : ℕ) (bytes : List ℕ) (lines : List (List ℕ)) (rest : List ℕ) → Splits bytes lines rest → (b ≡ 10)
+    ⊎ (b ≢ 10) → Parts (b ∷ bytes)
 with_first b bytes lines rest s (inl newline) = record {
   lines = (b ∷ []) ∷ lines;
   rest = rest;

@@ -1,6 +1,7 @@
 -- Replies with the fronts that their session saw: how many entries of the history.
 use Rattle.std.specs.Prelude.{ℕ, List, [], ◌∷◌, ◌++◌, Option, Some, None, codes, decimal, flat_map}
-use Rattle.ori_spec.specs.Reply.{ReplyData, row_line, temp_line, told_text}
+use Rattle.ori_spec_data.specs.Replies.{ReplyData}
+use Rattle.ori_spec_texts.specs.Reply.{row_line, temp_line, told_text}
 
 -- the front of the read, and where a commit was decided the one that it met
 abbrev pub fronts_text : ℕ → Option ℕ → List ℕ

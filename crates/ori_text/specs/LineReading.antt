@@ -1,11 +1,12 @@
 -- What the code's lines stand for, and what reading the next line gives.
-use Rattle.std.specs.Prelude.{◌≡◌, ◌≢◌, ℕ, ◌<◌, ◌≤◌, false, List, [], ◌∷◌, Option, Some, None, Result, Ok, Err, IsTrue, IfSome}
+use Rattle.std.specs.Prelude.{◌≡◌, ◌≢◌, ℕ, ◌<◌, ◌≤◌, false, List, [], ◌∷◌, Option, Some, None, Result, Ok, Err, IsTrue}
+use Rattle.std.specs.Prelude.{IfSome}
 use Rattle.std.specs.List.{AllByRecursion}
 use Rattle.ori_volume.specs.Causes.{Rose}
 use Rattle.ori_volume.specs.Streams.{Took}
 use Rattle.ori_bytes.specs.declared.limits.TheConstants.{MAX_INPUT_BYTES}
-use Rattle.ori_spec.specs.Line.{StepData, LineData, StopData, at_end, at_bad_line, at_limit, is_too_long}
-use Rattle.ori_spec.specs.Line as plain_line
+use Rattle.ori_spec_texts.specs.Line.{StepData, LineData, StopData, at_end, at_bad_line, at_limit, is_too_long}
+use Rattle.ori_spec_texts.specs.Line as plain_line
 use Rattle.ori_model.specs.Data.{dir_of}
 use Rattle.ori_text.specs.declared.line.StepLine.{StepLine}
 use Rattle.ori_text.specs.declared.line.StepLine.TheVariants.{Flush, Settle, Checkpoint, Reopen, History, Bag, Check}
@@ -33,9 +34,10 @@ line_of (lines.Step step) = plain_line.step (step_of step)
 abbrev pub IsAtEnd : Option (List ℕ) → Type 0
 IsAtEnd left = IfSome left (λ bytes. bytes ≡ [])
 
--- The reader took more bytes and gave lines, which say this up to where reading ends. A source that told its end before the call
--- isn't asked again.
-pub record Moves (left_old left_new : Option (List ℕ)) (old new : Reading) (said : List LineData) (stop : StopData) : Type 0 where
+-- The reader took more bytes and gave lines, which say this up to where reading ends. A source that told its end before
+-- the call isn't asked again.
+pub record Moves (left_old left_new : Option (List ℕ)) (old new : Reading) (said : List LineData) (stop : StopData)
+    : Type 0 where
   pub more : List ℕ
   pub lines : List (List ℕ)
   pub took : Took left_old left_new more
@@ -57,7 +59,8 @@ pub record IsEndOfInput (left_old left_new : Option (List ℕ)) (old new : Readi
   pub nothing_held : new.held ≡ []
   pub ended : IsTrue new.ended
 
-pub record IsSourceFault (left_old left_new : Option (List ℕ)) (faults_old faults_new : ℕ) (old new : Reading) : Type 0 where
+pub record IsSourceFault (left_old left_new : Option (List ℕ)) (faults_old faults_new : ℕ) (old new : Reading)
+    : Type 0 where
   pub moves : Moves left_old left_new old new [] at_end
   pub part : HoldsPart new
   pub goes_on : new.ended ≡ false
@@ -65,12 +68,15 @@ pub record IsSourceFault (left_old left_new : Option (List ℕ)) (faults_old fau
 
 -- where reading lines stands at a fault of a line
 abbrev pub IsFault : Option (List ℕ) → Option (List ℕ) → ℕ → ℕ → Reading → Reading → LineFault → Type 0
-IsFault left_old left_new faults_old faults_new old new faults.Source = IsSourceFault left_old left_new faults_old faults_new old new
+IsFault left_old left_new faults_old faults_new old new faults.Source =
+    IsSourceFault left_old left_new faults_old faults_new old new
 IsFault left_old left_new faults_old faults_new old new faults.Bad = Moves left_old left_new old new [] at_bad_line
 IsFault left_old left_new faults_old faults_new old new faults.TooLarge = Moves left_old left_new old new [] at_limit
 IsFault left_old left_new faults_old faults_new old new faults.NoMemory = Moves left_old left_new old new [] at_end
 
-abbrev pub IsNext : Option (List ℕ) → Option (List ℕ) → ℕ → ℕ → Reading → Reading → Result (Option Line) LineFault → Type 0
+abbrev pub IsNext : Option (List ℕ) → Option (List ℕ) → ℕ → ℕ → Reading → Reading → Result (Option Line) LineFault →
+    Type 0
 IsNext left_old left_new faults_old faults_new old new (Ok None) = IsEndOfInput left_old left_new old new
 IsNext left_old left_new faults_old faults_new old new (Ok (Some line)) = IsLine left_old left_new old new line
-IsNext left_old left_new faults_old faults_new old new (Err fault) = IsFault left_old left_new faults_old faults_new old new fault
+IsNext left_old left_new faults_old faults_new old new (Err fault) =
+    IsFault left_old left_new faults_old faults_new old new fault

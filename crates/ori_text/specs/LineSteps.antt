@@ -1,11 +1,12 @@
 -- The steps of reading lines: judging one line, taking it from the bytes that are held, and reading more of them.
-use Rattle.std.specs.Prelude.{◌≡◌, ◌≢◌, ◌⊎◌, ℕ, ◌+◌, ◌*◌, ◌<◌, ◌≤◌, Bool, false, List, [], ◌++◌, length, Option, Some, None, Result, Ok, Err, IsTrue, if◌then◌else◌, ⊤}
+use Rattle.std.specs.Prelude.{◌≡◌, ◌≢◌, ◌⊎◌, ℕ, ◌+◌, ◌*◌, ◌<◌, ◌≤◌, Bool, false, List, [], ◌++◌, length, Option, Some}
+use Rattle.std.specs.Prelude.{None, Result, Ok, Err, IsTrue, if◌then◌else◌, ⊤}
 use Rattle.std.specs.List.{AllByRecursion}
 use Rattle.ori_volume.specs.declared.failed.Failed.{Failed}
 use Rattle.ori_volume.specs.Causes.{Rose}
 use Rattle.ori_volume.specs.Streams.{Took}
 use Rattle.ori_bytes.specs.declared.limits.TheConstants.{MAX_INPUT_BYTES}
-use Rattle.ori_spec.specs.Line.{at_end, IsWholeLine, is_too_long, is_skipped, IsTaken, IsSaid, IsMalformed, Reads}
+use Rattle.ori_spec_texts.specs.Line.{at_end, IsWholeLine, is_too_long, is_skipped, IsTaken, IsSaid, IsMalformed, Reads}
 use Rattle.ori_text.specs.declared.line.Line.{Line}
 use Rattle.ori_text.specs.declared.line.LineFault.{LineFault}
 use Rattle.ori_text.specs.declared.line.LineFault.TheVariants as faults
@@ -53,12 +54,16 @@ pub record TakesFront (old new : Reading) (line : List ℕ) : Type 0 where
   pub same_end : new.ended ≡ old.ended
 
 abbrev pub IsTaking : Reading → Reading → Result Taken LineFault → Type 0
-IsTaking old new (Ok (takings.Said said)) = (line : List ℕ) × TakesFront old new line × IsSaid line new.given (line_of said)
-IsTaking old new (Ok takings.Skipped) = (line : List ℕ) × TakesFront old new line × IsTaken line new.given × IsTrue (is_skipped line)
+IsTaking old new (Ok (takings.Said said)) =
+    (line : List ℕ) × TakesFront old new line × IsSaid line new.given (line_of said)
+IsTaking old new (Ok takings.Skipped) =
+    (line : List ℕ) × TakesFront old new line × IsTaken line new.given × IsTrue (is_skipped line)
 IsTaking old new (Ok takings.Nothing) = (new ≡ old) × HasNoFront new
 IsTaking old new (Err faults.Source) = ⊥
-IsTaking old new (Err faults.Bad) = (line : List ℕ) × TakesFront old new line × (IsMalformed line new.given ⊎ IsTrue (is_too_long line))
-IsTaking old new (Err faults.TooLarge) = (line : List ℕ) × TakesFront old new line × (is_too_long line ≡ false) × (MAX_INPUT_BYTES < new.given)
+IsTaking old new (Err faults.Bad) =
+    (line : List ℕ) × TakesFront old new line × (IsMalformed line new.given ⊎ IsTrue (is_too_long line))
+IsTaking old new (Err faults.TooLarge) =
+    (line : List ℕ) × TakesFront old new line × (is_too_long line ≡ false) × (MAX_INPUT_BYTES < new.given)
 IsTaking old new (Err faults.NoMemory) = new ≡ old
 
 -- bytes came from the source, or it gave its end
@@ -71,7 +76,8 @@ pub record ReadsMore (left_old left_new : Option (List ℕ)) (old new : Reading)
 
 abbrev pub IsRead : Option (List ℕ) → Option (List ℕ) → ℕ → ℕ → Reading → Reading → Result (Unit {0}) Failed → Type 0
 IsRead left_old left_new faults_old faults_new old new (Ok u) = ReadsMore left_old left_new old new
-IsRead left_old left_new faults_old faults_new old new (Err e) = (left_new ≡ left_old) × (new ≡ old) × Rose faults_old faults_new
+IsRead left_old left_new faults_old faults_new old new (Err e) =
+    (left_new ≡ left_old) × (new ≡ old) × Rose faults_old faults_new
 
 -- rises with each step
 abbrev pub progress : Reading → ℕ
@@ -88,7 +94,8 @@ abbrev pub IsStep : Option (List ℕ) → Option (List ℕ) → ℕ → ℕ → 
 IsStep left_old left_new faults_old faults_new old new (Ok (steps.Said line)) = IsLine left_old left_new old new line
 IsStep left_old left_new faults_old faults_new old new (Ok steps.End) = IsEndOfInput left_old left_new old new
 IsStep left_old left_new faults_old faults_new old new (Ok steps.Further) = GoesFurther left_old left_new old new
-IsStep left_old left_new faults_old faults_new old new (Err fault) = IsFault left_old left_new faults_old faults_new old new fault
+IsStep left_old left_new faults_old faults_new old new (Err fault) =
+    IsFault left_old left_new faults_old faults_new old new fault
 
 -- reading may go on: not behind a line that ended it
 abbrev pub MayGoOn : Result (Option Line) LineFault → Reading → Type 0
@@ -113,9 +120,11 @@ abbrev pub IsPrompt : {S : Type 0} → S → S → Reading → Type 0
 IsPrompt source_old source_new old = (source_new ≡ source_old) ⊎ HoldsNoLine old
 
 -- a step that leaves the source as it was
-pub record LeavesSource {S : Type 0} (source_old source_new : S) (old new : Reading) (result : Result Step LineFault) : Type 0 where
+pub record LeavesSource {S : Type 0} (source_old source_new : S) (old new : Reading) (result : Result Step LineFault)
+    : Type 0 where
   pub same : source_new ≡ source_old
   pub further : result ≡ Ok steps.Further → (lines : List (List ℕ)) × Advances old new [] lines [] at_end
 
 abbrev pub IsPromptStep : {S : Type 0} → S → S → Reading → Reading → Result Step LineFault → Type 0
-IsPromptStep source_old source_new old new result = LeavesSource source_old source_new old new result ⊎ (HoldsPart old × (old.ended ≡ false))
+IsPromptStep source_old source_new old new result =
+    LeavesSource source_old source_new old new result ⊎ (HoldsPart old × (old.ended ≡ false))

@@ -1,10 +1,11 @@
--- How lines are read piece by piece: what one reading of a line takes from the input, and that readings follow one another.
+-- How lines are read piece by piece: what one reading of a line takes from the input, and that readings follow one
+-- another.
 use Rattle.std.specs.Prelude.{◌≡◌, ◌≢◌, ◌⊎◌, ℕ, ◌+◌, ◌<◌, Bool, List, [], ◌∷◌, ◌++◌, length, flat_map, IsTrue}
 use Rattle.std.specs.List.{AllByRecursion}
-use Rattle.ori_spec.specs.Line.{LineData, StopData, IsWholeLine, is_too_long, Reads}
+use Rattle.ori_spec_texts.specs.Line.{LineData, StopData, IsWholeLine, is_too_long, Reads}
 
--- how many bytes were given as lines, the bytes that were read and not given yet, and whether the source has given its end:
--- from then on it isn't asked again
+-- how many bytes were given as lines, the bytes that were read and not given yet, and whether the source has given its
+-- end: from then on it isn't asked again
 pub record Reading : Type 0 where
   pub given : ℕ
   pub held : List ℕ
@@ -17,7 +18,8 @@ joined lines = flat_map (λ line. line) lines
 abbrev pub AreWhole : List (List ℕ) → Type 0
 AreWhole lines = AllByRecursion IsWholeLine lines
 
--- whole lines and then a last one without its end, behind which nothing is held: the input has ended, or it is too long already
+-- whole lines and then a last one without its end, behind which nothing is held: the input has ended, or it is too long
+-- already
 pub record HasLast (ended : Bool) (lines : List (List ℕ)) (held : List ℕ) : Type 0 where
   pub front : List (List ℕ)
   pub last : List ℕ
@@ -28,9 +30,10 @@ pub record HasLast (ended : Bool) (lines : List (List ℕ)) (held : List ℕ) : 
   pub nothing_held : held ≡ []
   pub why : IsTrue ended ⊎ IsTrue (is_too_long last)
 
--- More bytes came from the source; with those held they are these lines and what is held then. The lines say this, up to
--- where reading ends.
-pub record Advances (old new : Reading) (more : List ℕ) (lines : List (List ℕ)) (said : List LineData) (stop : StopData) : Type 0 where
+-- More bytes came from the source; with those held they are these lines and what is held then. The lines say this, up
+-- to where reading ends.
+pub record Advances (old new : Reading) (more : List ℕ) (lines : List (List ℕ)) (said : List LineData) (stop : StopData)
+    : Type 0 where
   pub parts : old.held ++ more ≡ joined lines ++ new.held
   pub given : new.given ≡ old.given + length (joined lines)
   pub reads : Reads old.given lines said stop

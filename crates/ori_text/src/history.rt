@@ -1,7 +1,7 @@
 // Histories as they are printed.
 ghost use Rattle.std.specs.Prelude.{◌≡◌, ◌+◌, ◌++◌, ◌∷◌, [], codes, decimal, IfOk, string_bytes, map};
-ghost use Rattle.ori_spec.specs.Json.{rid_text};
-ghost use Rattle.ori_spec.specs.Reply.{change_text, rids_behind, changes_text, entry_text, entries_text, history_text};
+ghost use Rattle.ori_spec_texts.specs.Json.{rid_text};
+ghost use Rattle.ori_spec_texts.specs.Reply.{change_text, rids_behind, changes_text, entry_text, entries_text, history_text};
 ghost use Rattle.ori_model.specs.Data.{change_of, entry_of, entries_of};
 
 use crate::json::rid_string;
@@ -100,8 +100,8 @@ fn entry_lines(alloc: Global, entries: &[Entry]) -> Result<String, NoMemory>
     Ok(text)
 }
 
-/// The lines of a history: one for each entry, with its place from 0 on, and the count. The time that it takes is that of what it
-/// prints.
+/// The lines of a history: one for each entry, with its place from 0 on, and the count. The time that it takes is that
+/// of what it prints.
 pub fn history_text(alloc: Global, history: &[Entry]) -> Result<Text, NoMemory>
     ensures { IfOk result (λ t. t ≡ history_text (entries_of history.now)) }
 {

@@ -1,13 +1,23 @@
 // Identifiers as text, and values and rows as JSON.
 ghost use Rattle.std.specs.Prelude.{◌≡◌, ◌<◌, ◌/◌, ◌%◌, ◌++◌, ◌∷◌, [], IfOk, OnOk, string_bytes};
 ghost use Rattle.std.specs.Char.{digit_char};
-ghost use Rattle.serde_json.specs.Data.{array, object, put};
-ghost use Rattle.serde_json.specs.View.{view, items_view, members_view};
-ghost use Rattle.ori_spec.specs.Json.{row_json, rid_text, hex, rids_items, links_members, with_class, json_of, trees_items, fields_members};
+ghost use Rattle.serde_json.specs.Data.{array, object, string, put};
+ghost use Rattle.serde_json.specs.View.{view, members_view};
+ghost use Rattle.ori_spec_texts.specs.Json.{
+  row_json,
+  rid_text,
+  hex,
+  rids_items,
+  links_members,
+  with_class,
+  json_of,
+  trees_items,
+  fields_members,
+};
 ghost use Rattle.ori_value.specs.View.{tree_of};
 ghost use Rattle.ori_model.specs.Replies.{row_of};
 
-use ori_bytes::{NoMemory, Rid, Text};
+use ori_bytes::{Blob, NoMemory, Rid, Text};
 use ori_model::Row;
 use ori_value::{FieldList, RidFieldList, Value, ValueList};
 use serde_json::{Map, Value as Json};
@@ -55,15 +65,36 @@ fn hex_string(alloc: Global, bytes: &[u8]) -> Result<String, NoMemory>
     Ok(text)
 }
 
-// Identifiers as the items of an array.
-fn rid_items(alloc: Global, rids: &[Rid]) -> Result<Vec<Json>, NoMemory>
-    ensures { IfOk result (λ v. items_view v.items ≡ rids_items rids.now) }
+// A text as JSON.
+fn text_json(alloc: Global, text: &Text) -> Result<Json, NoMemory>
+    ensures { IfOk result (λ j. view j ≡ string text.now) }
+{
+    Ok(Json::from(String::from_str(alloc, text.as_str())?))
+}
+
+// Bytes as JSON.
+fn binary_json(alloc: Global, bytes: &Blob) -> Result<Json, NoMemory>
+    ensures { IfOk result (λ j. view j ≡ string (hex bytes.now)) }
+{
+    Ok(Json::from(hex_string(alloc, bytes.as_slice())?))
+}
+
+// An identifier as JSON.
+fn rid_json(alloc: Global, rid: Rid) -> Result<Json, NoMemory>
+    ensures { IfOk result (λ j. view j ≡ string (rid_text rid)) }
+{
+    Ok(Json::from(rid_string(alloc, rid)?))
+}
+
+// Identifiers as an array.
+fn rids_json(alloc: Global, rids: &[Rid]) -> Result<Json, NoMemory>
+    ensures { IfOk result (λ j. view j ≡ array (rids_items rids.now)) }
 {
     let mut items = Vec::with_capacity(alloc, rids.len())?;
     for rid in rids {
-        items.push(Json::from(rid_string(alloc, *rid)?))?;
+        items.push(rid_json(alloc, *rid)?)?;
     }
-    Ok(items)
+    Ok(Json::from(items))
 }
 
 // Puts a member into an object.
@@ -81,29 +112,29 @@ fn put_member(
     Ok(())
 }
 
-// Names and identifiers as the members of an object.
-fn link_members(alloc: Global, links: &RidFieldList) -> Result<Map<String, Json>, NoMemory>
-    ensures { IfOk result (λ m. members_view m.entries ≡ links_members links.now) }
+// Names and identifiers as an object.
+fn links_json(alloc: Global, links: &RidFieldList) -> Result<Json, NoMemory>
+    ensures { IfOk result (λ j. view j ≡ object (links_members links.now)) }
 {
     let pairs = links.as_slice();
     let mut members = Map::new(alloc);
     for i in (0..pairs.len()).rev() {
         let pair = &pairs[i];
-        let rid = Json::from(rid_string(alloc, pair.1)?);
+        let rid = rid_json(alloc, pair.1)?;
         put_member(alloc, &mut members, pair.0.as_str(), rid)?;
     }
-    Ok(members)
+    Ok(Json::from(members))
 }
 
 // Puts a document's class among its members, unless it has none.
-fn put_class(alloc: Global, members: &mut Map<String, Json>, class: &Text) -> Result<(), NoMemory>
+fn put_class(alloc: Global, members: &mut Map<String, Json>, class: &str) -> Result<(), NoMemory>
     ensures { OnOk result (members_view members.new.entries
         ≡ with_class class.now (members_view members.old.entries)) }
 {
     if class.is_empty() {
         return Ok(());
     }
-    let class = Json::from(String::from_str(alloc, class.as_str())?);
+    let class = Json::from(String::from_str(alloc, class)?);
     put_member(alloc, members, "@class", class)
 }
 
@@ -119,34 +150,42 @@ fn json_value(alloc: Global, value: &Value) -> Result<Json, NoMemory>
         Value::Short(number) => Ok(Json::from(*number)),
         Value::Long(number) => Ok(Json::from(*number)),
         Value::Datetime(moment) => Ok(Json::from(*moment)),
-        Value::Str(text) => Ok(Json::from(String::from_str(alloc, text.as_str())?)),
-        Value::Binary(bytes) => Ok(Json::from(hex_string(alloc, bytes.as_slice())?)),
+        Value::Str(text) => text_json(alloc, text),
+        Value::Binary(bytes) => binary_json(alloc, bytes),
         Value::Embedded(document) => {
-            let mut members = field_members(alloc, &document.fields)?;
-            put_class(alloc, &mut members, &document.class)?;
-            Ok(Json::from(members))
+            object_json(alloc, document.class.as_str(), &document.fields)
         }
-        Value::EmbeddedList(values) => Ok(Json::from(value_items(alloc, values)?)),
-        Value::EmbeddedMap(fields) => Ok(Json::from(field_members(alloc, fields)?)),
-        Value::Link(rid) => Ok(Json::from(rid_string(alloc, *rid)?)),
-        Value::LinkList(rids) => Ok(Json::from(rid_items(alloc, rids.as_slice())?)),
-        Value::LinkSet(rids) => Ok(Json::from(rid_items(alloc, rids.as_slice())?)),
-        Value::LinkMap(links) => Ok(Json::from(link_members(alloc, links)?)),
+        Value::EmbeddedList(values) => array_json(alloc, values),
+        Value::EmbeddedMap(fields) => object_json(alloc, "", fields),
+        Value::Link(rid) => rid_json(alloc, *rid),
+        Value::LinkList(rids) => rids_json(alloc, rids.as_slice()),
+        Value::LinkSet(rids) => rids_json(alloc, rids.as_slice()),
+        Value::LinkMap(links) => links_json(alloc, links),
         Value::Byte(number) => Ok(Json::from(*number)),
     }
 }
 
-// Values as the items of an array.
+// Values as an array.
 #[cycle(jsons)]
-fn value_items(alloc: Global, values: &ValueList) -> Result<Vec<Json>, NoMemory>
-    ensures { IfOk result (λ v. items_view v.items ≡ trees_items values.now) }
+fn array_json(alloc: Global, values: &ValueList) -> Result<Json, NoMemory>
+    ensures { IfOk result (λ j. view j ≡ array (trees_items values.now)) }
 {
     let all = values.as_slice();
     let mut items = Vec::with_capacity(alloc, all.len())?;
     for value in all {
         items.push(json_value(alloc, value)?)?;
     }
-    Ok(items)
+    Ok(Json::from(items))
+}
+
+// A class, which may be empty, and fields as an object.
+#[cycle(jsons)]
+fn object_json(alloc: Global, class: &str, fields: &FieldList) -> Result<Json, NoMemory>
+    ensures { IfOk result (λ j. view j ≡ object (with_class class.now (fields_members fields.now))) }
+{
+    let mut members = field_members(alloc, fields)?;
+    put_class(alloc, &mut members, class)?;
+    Ok(Json::from(members))
 }
 
 // Fields as the members of an object.
@@ -168,6 +207,6 @@ fn field_members(alloc: Global, fields: &FieldList) -> Result<Map<String, Json>,
 pub fn row_json(alloc: Global, row: &Row) -> Result<Text, NoMemory>
     ensures { IfOk result (λ t. t ≡ row_json (row_of row.now)) }
 {
-    let json = Json::from(field_members(alloc, &row.columns)?);
+    let json = object_json(alloc, "", &row.columns)?;
     Ok(Text::from_string(json.to_string(alloc)?))
 }

@@ -3,8 +3,8 @@ ghost use Rattle.std.specs.Prelude.{◌≡◌, ◌≢◌, ◌+◌, ◌-◌, ◌<
 ghost use Rattle.ori_volume.specs.Causes.{HasCause};
 ghost use Rattle.ori_volume.specs.Streams.{Took};
 ghost use Rattle.ori_bytes.specs.declared.rid.Rid.{Rid};
-ghost use Rattle.ori_spec.specs.Base.{DirData};
-ghost use Rattle.ori_spec.specs.Line.{is_try, body_of, without_last, is_too_long, is_skipped, dir_text, bag, IsSession, IsStepText};
+ghost use Rattle.ori_spec_data.specs.Base.{DirData};
+ghost use Rattle.ori_spec_texts.specs.Line.{is_try, body_of, without_last, is_too_long, is_skipped, dir_text, bag, IsSession, IsStepText};
 ghost use Rattle.ori_model.specs.Data.{dir_of};
 ghost use Rattle.ori_text.specs.Lines.{Reading};
 ghost use Rattle.ori_text.specs.LineReading.{IsAtEnd, IsNext};
@@ -18,7 +18,6 @@ use ori_model::Dir;
 use ori_volume::{Failed, Source};
 use std::alloc::Global;
 use std::marker::Model;
-use thiserror::Error;
 
 /// How many bytes are asked of a source at once, at least.
 const CHUNK_BYTES: usize = 4096;
@@ -27,7 +26,7 @@ const CHUNK_BYTES: usize = 4096;
 const BUFFER_BYTES: usize = MAX_LINE_BYTES + 2 + CHUNK_BYTES;
 
 /// A step of the store, `! <step>`.
-#[derive(Debug, Drop)]
+#[derive(Drop)]
 pub enum StepLine {
     /// Writes the pages of a cache partition, 0 to 7.
     Flush { part: u8 },
@@ -41,7 +40,7 @@ pub enum StepLine {
 }
 
 /// What a line says. Sessions are 1 to 64.
-#[derive(Debug, Drop)]
+#[derive(Drop)]
 pub enum Line {
     /// A session's statement.
     Statement { session: u8, text: Text },
@@ -51,24 +50,20 @@ pub enum Line {
 }
 
 /// Why no line is given.
-#[derive(Clone, Copy, Debug, PartialEq, Eq, Error)]
+#[derive(Clone, Copy)]
 pub enum LineFault {
     /// The source failed. What it gave before is kept, and reading may go on.
-    #[error("the input failed")]
     Source,
     /// The next line is of no form, or longer than lines may be. Reading ends here.
-    #[error("a line of no form")]
     Bad,
     /// The first byte past the limit of the input lies in the next line. Reading ends here.
-    #[error("the input is too large")]
     TooLarge,
     /// There was no memory for a line's text. The line is still held, and reading may go on.
-    #[error("out of memory")]
     NoMemory,
 }
 
 // What became of the bytes at the front of those that are held.
-#[derive(Debug, Drop)]
+#[derive(Drop)]
 enum Taken {
     Said(Line),
     Skipped,
@@ -76,15 +71,15 @@ enum Taken {
 }
 
 // What one step of reading gives.
-#[derive(Debug, Drop)]
+#[derive(Drop)]
 enum Step {
     Said(Line),
     End,
     Further,
 }
 
-/// Reads lines from a source, in a buffer of one line and a chunk. A contract sees how many bytes were given as lines, the bytes
-/// that were read and not given yet, and whether the source has given its end.
+/// Reads lines from a source, in a buffer of one line and a chunk. A contract sees how many bytes were given as lines,
+/// the bytes that were read and not given yet, and whether the source has given its end.
 #[derive(Drop)]
 pub struct LineReader {
     buffer: Vec<u8>,
@@ -101,7 +96,8 @@ impl Model for LineReader {
 
     ghost Value = { Reading };
 
-    ghost view = { λ r. record { given = r.given; held = take (r.end - r.start) (drop r.start r.buffer.items); ended = r.ended } };
+    ghost view = { λ r.
+        record { given = r.given; held = take (r.end - r.start) (drop r.start r.buffer.items); ended = r.ended } };
 
     ghost invariant = { λ r. (r.start ≤ r.end) × (r.end ≤ vec_len r.buffer) × (vec_len r.buffer ≡ BUFFER_BYTES) };
 }
@@ -501,159 +497,4 @@ fn read_dir(text: &str) -> Option<Dir>
         return Some(Dir::Into);
     }
     None
-}
-
-#[cfg(test)]
-mod tests {
-    use super::*;
-    use ori_bytes::{Blob, NumberList};
-    use ori_volume::MemSource;
-    use std::test::Fail;
-
-    // What the first line of an input says.
-    fn first(alloc: Global, input: &[u8]) -> Result<Option<Line>, LineFault> {
-        let (Ok(bytes), Ok(mut reader)) = (Blob::from_slice(alloc, input), LineReader::new(alloc))
-        else {
-            return Err(LineFault::NoMemory);
-        };
-        let mut source = MemSource::of(bytes, NumberList::new(alloc));
-        reader.next(alloc, &mut source)
-    }
-
-    #[test]
-    fn statements(rt: HostRuntime) -> Result<(), Fail> {
-        let rows = [
-            (
-                "1 INSERT INTO V SET name = 'Ann'\n",
-                1,
-                0,
-                "INSERT INTO V SET name = 'Ann'",
-            ),
-            ("1 \n", 1, 0, ""),
-            ("64 BEGIN\r\n", 64, 0, "BEGIN"),
-            ("1 TRYX", 1, 0, "TRYX"),
-            ("\n\r\n--x\n2 BEGIN", 2, 0, "BEGIN"),
-            ("1 TRY 5 x\n", 1, 5, "x"),
-            ("1 TRY 1000000 TRY\n", 1, 1_000_000, "TRY"),
-        ];
-        for (input, session, count, text) in rows {
-            match first(rt.alloc(), input.as_bytes()) {
-                Ok(
-                    Some(
-                        Line::Statement {
-                            session: s,
-                            text: t,
-                        },
-                    ),
-                ) => {
-                    assert!(rt; s == session && count == 0 && t.as_str() == text, "{input}");
-                }
-                Ok(
-                    Some(
-                        Line::Tries {
-                            session: s,
-                            count: c,
-                            text: t,
-                        },
-                    ),
-                ) => {
-                    assert!(rt; s == session && c == count && t.as_str() == text, "{input}");
-                }
-                _ => panic!(rt; "{input}"),
-            }
-        }
-        Ok(())
-    }
-
-    #[test]
-    fn steps(rt: HostRuntime) -> Result<(), Fail> {
-        let Ok(Some(Line::Step(StepLine::Flush { part }))) = first(rt.alloc(), b"! flush 7\n")
-        else {
-            return Err("no flush".into());
-        };
-        assert_eq!(rt; part, 7);
-        let Ok(Some(Line::Step(StepLine::Bag { vertex, dir, class }))) = first(
-            rt.alloc(),
-            b"! bag #1:0 out E",
-        ) else {
-            return Err("no bag".into());
-        };
-        assert!(rt;
-            vertex.cluster == 1 && vertex.position == 0 && dir == Dir::Out && class.as_str() == "E"
-        );
-        Ok(())
-    }
-
-    #[test]
-    fn bad_lines(rt: HostRuntime) -> Result<(), Fail> {
-        let rows = [
-            "1",
-            "0 x",
-            "65 BEGIN",
-            "01 x",
-            "+1 x",
-            " 1 x",
-            "1 TRY",
-            "1 TRY 05 x",
-            "1 TRY 0 x",
-            "1 TRY 1000001 x",
-            "1 TRY 5 ",
-            "1 TRY 5",
-            "!",
-            "! flush 8",
-            "! flush 07",
-            "! settle ",
-            "! bag #1:0 both E",
-            "! bag #1:0  out E",
-            "-x",
-        ];
-        for input in rows {
-            assert!(rt;
-                matches!(first(rt.alloc(), input.as_bytes()), Err(LineFault::Bad)),
-                "{input}"
-            );
-        }
-        assert!(rt; matches!(first(rt.alloc(), b"1 \xff\n"), Err(LineFault::Bad)));
-        assert!(rt; matches!(first(rt.alloc(), b"--\xff\r\n"), Ok(None)));
-        Ok(())
-    }
-
-    #[test]
-    fn lengths(rt: HostRuntime) -> Result<(), Fail> {
-        let alloc = rt.alloc();
-        let mut input = b"1 ".to_vec(alloc)?;
-        input.extend_from_slice(&[b'x'; 3998])?;
-        assert!(rt; matches!(first(alloc, input.as_slice()), Ok(Some(_))));
-        input.extend_from_slice(b"\r\n")?;
-        assert!(rt; matches!(first(alloc, input.as_slice()), Ok(Some(_))));
-        input.extend_from_slice(b"1 ")?;
-        input.extend_from_slice(&[b'x'; 3999])?;
-        assert!(rt; matches!(first(alloc, &input[4002..]), Err(LineFault::Bad)));
-        Ok(())
-    }
-
-    #[test]
-    fn reading_goes_on(rt: HostRuntime) -> Result<(), Fail> {
-        let alloc = rt.alloc();
-        let mut fail = NumberList::new(alloc);
-        fail.push(1)?;
-        let mut source = MemSource::of(Blob::from_slice(alloc, b"1 a\n2 b")?, fail);
-        let mut reader = LineReader::new(alloc)?;
-        assert!(rt;
-            matches!(
-                reader.next(alloc, &mut source),
-                Ok(Some(Line::Statement { session: 1, .. }))
-            )
-        );
-        assert!(rt; matches!(reader.next(alloc, &mut source), Err(LineFault::Source)));
-        assert!(rt;
-            matches!(
-                reader.next(alloc, &mut source),
-                Ok(Some(Line::Statement { session: 2, .. }))
-            )
-        );
-        assert!(rt; matches!(reader.next(alloc, &mut source), Ok(None)));
-        assert!(rt; matches!(reader.next(alloc, &mut source), Ok(None)));
-        Ok(())
-    }
 }

@@ -2,7 +2,8 @@
 ghost use Rattle.std.specs.Prelude.{◌≡◌, ◌≢◌, ◌||◌, ◌++◌, ◌∷◌, List, ℕ, ℤ, MatchOption};
 ghost use Rattle.std.specs.List.{list_all};
 ghost use Rattle.ori_bytes.specs.declared.rid.Rid.{Rid};
-ghost use Rattle.ori_spec.specs.Statement.{is_word, is_letter, is_digit, IsLink, IsNumeral, IsSigned};
+ghost use Rattle.ori_spec_texts.specs.Statement.{is_word, is_letter, is_digit, IsLink, IsNumeral};
+ghost use Rattle.ori_spec_data.specs.Numbers.{IsSigned};
 ghost use Rattle.ori_text.specs.Pieces.{IsSplitAt};
 
 use ori_bytes::Rid;

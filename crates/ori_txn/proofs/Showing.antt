@@ -1,17 +1,18 @@
 -- What is shown through a transaction.
-use Rattle.std.proofs.Common.{◌≡◌, List, [], ◌∷◌, Bool, true, false, cond, Option, Some, None, option_map, IfSome, refl, sym, ◌∙◌}
+use Rattle.std.proofs.Common.{◌≡◌, List, [], ◌∷◌, Bool, true, false, cond, Option, Some, None, option_map, IfSome}
+use Rattle.std.proofs.Common.{refl, sym, ◌∙◌}
 use denote.Struct.Props.{props}
 use mathlib.Core.Logic.{∥∥₁_elim}
 use Rattle.std.specs.Coded.{Coded, Coded-set, code_by, coded_option, Unit-prop}
 use Rattle.ori_bytes.specs.declared.rid.Rid.{Rid}
-use Rattle.ori_spec.specs.Value.{Fields, no_pairs, pair}
-use Rattle.ori_spec.specs.Base.{RecordData, ChangeData, create, update, delete, touch, TxData}
-use Rattle.ori_spec.specs.Apply.{same_rid, target, HasOwnFields, HasOwn, IsFormed}
-use Rattle.ori_spec.specs.Statement.{record_at}
-use Rattle.ori_spec.specs.Staging.{change_at, laid_over}
-use Rattle.ori_spec.specs.Views.{ViewData, overlay_view, are_real, shown_through}
-use Rattle.ori_spec.proofs.Overlays.{overlaid_at}
-use Rattle.ori_spec.proofs.Rids.{same_rid-true}
+use Rattle.ori_spec_data.specs.Value.{Fields, no_pairs, pair}
+use Rattle.ori_spec_data.specs.Base.{RecordData, ChangeData, create, update, delete, touch, TxData}
+use Rattle.ori_spec_data.specs.Apply.{same_rid, target, HasOwnFields, HasOwn, IsFormed}
+use Rattle.ori_spec_data.specs.Records.{record_at}
+use Rattle.ori_spec_data.specs.Staging.{change_at, laid_over}
+use Rattle.ori_spec_data.specs.Views.{ViewData, overlay_view, are_real, shown_through}
+use Rattle.ori_spec_data.proofs.Overlays.{overlaid_at}
+use Rattle.ori_spec_data.proofs.Rids.{same_rid-true}
 use Rattle.ori_txn.specs.Places.{IsFor}
 use Rattle.ori_model.specs.declared.record.Stored.{Stored}
 use Rattle.ori_model.specs.contracts.record.Stored as stored
@@ -20,7 +21,8 @@ use Rattle.ori_model.specs.Reading.{IsFetched}
 
 -- what the change at an identifier makes of the record that a view has there is what is shown through the transaction
 shows : (view : Option ViewData) (tx : TxData) (o : Option Stored) (rid : Rid) → IsFormed tx
-    → IfSome view (λ shown. option_map record_of o ≡ laid_over (change_at tx.changes rid) (record_at shown.records rid)) → IsFetched (shown_through view tx) rid o
+    → IfSome view (λ shown. option_map record_of o ≡ laid_over (change_at tx.changes rid) (record_at shown.records rid))
+    → IsFetched (shown_through view tx) rid o
 shows None tx o rid formed h = tt
 shows (Some view) tx o rid formed h = by (are_real view.records) refl
   where
@@ -38,11 +40,14 @@ coded_record = code_by Stored stored.the_row.coded stored_of record_of (λ r. re
 
 fetched_prop : (view : Option ViewData) (rid : Rid) (o : Option Stored) → IsProp (IsFetched view rid o)
 fetched_prop None rid o = Unit-prop
-fetched_prop (Some view) rid o = Coded-set (coded_option coded_record) (option_map record_of o) (record_at view.records rid)
+fetched_prop (Some view) rid o = Coded-set (coded_option coded_record) (option_map record_of o)
+    (record_at view.records rid)
 
 pub shows_formed : (view : Option ViewData) (tx : TxData) (o : Option Stored) (rid : Rid) → ∥ IsFormed tx ∥₁
-    → IfSome view (λ shown. option_map record_of o ≡ laid_over (change_at tx.changes rid) (record_at shown.records rid)) → IsFetched (shown_through view tx) rid o
-shows_formed view tx o rid formed h = ∥∥₁_elim formed (fetched_prop (shown_through view tx) rid o) (λ is. shows view tx o rid is h)
+    → IfSome view (λ shown. option_map record_of o ≡ laid_over (change_at tx.changes rid) (record_at shown.records rid))
+    → IsFetched (shown_through view tx) rid o
+shows_formed view tx o rid formed h = ∥∥₁_elim formed (fetched_prop (shown_through view tx) rid o)
+    (λ is. shows view tx o rid is h)
 
 -- ---- the change of an identifier
 
@@ -58,14 +63,15 @@ own_behind (update other version fields) cs own = own.1
 own_behind (delete other version) cs own = own
 own_behind (touch other version) cs own = own
 
-found_at_one : (b : Bool) (c : ChangeData) (cs : List ChangeData) (rid : Rid) → same_rid rid (target c) ≡ b → HasOwn (c ∷ cs) → IfSome (change_at cs rid) (IsFor rid)
-    → IfSome (cond b (Some c) (change_at cs rid)) (IsFor rid)
+found_at_one : (b : Bool) (c : ChangeData) (cs : List ChangeData) (rid : Rid) → same_rid rid (target c) ≡ b
+    → HasOwn (c ∷ cs) → IfSome (change_at cs rid) (IsFor rid) → IfSome (cond b (Some c) (change_at cs rid)) (IsFor rid)
 found_at_one true c cs rid e own rest = for_first c cs rid (sym (same_rid-true rid (target c) e)) own
 found_at_one false c cs rid e own rest = rest
 
 found_for : (cs : List ChangeData) (rid : Rid) → HasOwn cs → IfSome (change_at cs rid) (IsFor rid)
 found_for [] rid own = tt
-found_for (c ∷ cs) rid own = found_at_one (same_rid rid (target c)) c cs rid refl own (found_for cs rid (own_behind c cs own))
+found_for (c ∷ cs) rid own = found_at_one (same_rid rid (target c)) c cs rid refl own
+    (found_for cs rid (own_behind c cs own))
 
 own_prop : (fs : Fields) → IsProp (HasOwnFields fs)
 own_prop no_pairs = hlevel props
@@ -83,4 +89,5 @@ some_for_prop rid (Some c) = for_prop rid c
 
 -- the change that is found at an identifier is one for it
 pub found_formed : (tx : TxData) (rid : Rid) → ∥ IsFormed tx ∥₁ → IfSome (change_at tx.changes rid) (IsFor rid)
-found_formed tx rid formed = ∥∥₁_elim formed (some_for_prop rid (change_at tx.changes rid)) (λ is. found_for tx.changes rid is.own)
+found_formed tx rid formed = ∥∥₁_elim formed (some_for_prop rid (change_at tx.changes rid))
+    (λ is. found_for tx.changes rid is.own)

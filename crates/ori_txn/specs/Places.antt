@@ -4,9 +4,9 @@ use Rattle.std.specs.Prelude.{◌≡◌, ℕ, ◌+◌, zero, suc, Bool, true, fa
 use Rattle.indexmap.specs.IndexSet.{IndexSet}
 use Rattle.ori_bytes.specs.declared.rid.Rid.{Rid}
 use Rattle.ori_bytes.specs.contracts.rid.Rid as rid_of
-use Rattle.ori_spec.specs.Base.{ChangeData, create, update, delete, touch}
-use Rattle.ori_spec.specs.Apply.{target, HasOwnFields}
-use Rattle.ori_spec.specs.Staging.{merged, with_change, given_by}
+use Rattle.ori_spec_data.specs.Base.{ChangeData, create, update, delete, touch}
+use Rattle.ori_spec_data.specs.Apply.{target, HasOwnFields}
+use Rattle.ori_spec_data.specs.Staging.{merged, with_change, given_by}
 use Rattle.ori_model.specs.declared.change.Change.{Change}
 use Rattle.ori_model.specs.Data.{change_of}
 

@@ -1,8 +1,8 @@
 // The changes of an open transaction.
 ghost use Rattle.std.specs.Prelude.{◌≡◌, ◌+◌, ◌≤◌, map, length, option_map, vec_len, vec_capacity, IfOk, OnOk, OnErr};
 ghost use Rattle.indexmap.specs.IndexSet.{spare, IsUnchanged};
-ghost use Rattle.ori_spec.specs.Apply.{temporary, IsFormed};
-ghost use Rattle.ori_spec.specs.Staging.{given_by, staged, change_at, no_tx, CanStage};
+ghost use Rattle.ori_spec_data.specs.Apply.{temporary, IsFormed};
+ghost use Rattle.ori_spec_data.specs.Staging.{given_by, staged, change_at, no_tx, CanStage};
 ghost use Rattle.ori_model.specs.Data.{change_of, tx_of};
 ghost use Rattle.ori_txn.specs.Places.{given_by_all};
 
@@ -15,8 +15,9 @@ use std::alloc::Global;
 use std::marker::Model;
 use std::mem;
 
-/// The changes that a session's statements have staged, which a contract sees as the transaction. It is formed. The place of
-/// each identifier among the changes is kept beside them, so that a look-up takes no longer where there are many.
+/// The changes that a session's statements have staged, which a contract sees as the transaction. It is formed. The
+/// place of each identifier among the changes is kept beside them, so that a look-up takes no longer where there are
+/// many.
 #[derive(Drop)]
 pub struct TxBuffer {
     tx: Tx,
@@ -26,7 +27,7 @@ pub struct TxBuffer {
 impl Model for TxBuffer {
     ghost use Rattle.ori_model.specs.declared.change.Tx.{Tx};
     ghost use Rattle.ori_model.specs.contracts.change.Tx as transaction;
-    ghost use Rattle.ori_spec.specs.Apply.{IsFormed};
+    ghost use Rattle.ori_spec_data.specs.Apply.{IsFormed};
     ghost use Rattle.ori_model.specs.Data.{tx_of};
     ghost use Rattle.ori_txn.specs.Places.{AreBeside};
 
@@ -140,9 +141,9 @@ impl TxBuffer {
         self.places.clear();
     }
 
-    /// Stages changes, all or none. Each new record has the next temporary identifier, and no other change names a record that
-    /// is deleted here, or a temporary identifier that isn't made here. Memory is also wanting for more than 4294967295
-    /// temporary identifiers.
+    /// Stages changes, all or none. Each new record has the next temporary identifier, and no other change names a
+    /// record that is deleted here, or a temporary identifier that isn't made here. Memory is also wanting for more
+    /// than 4294967295 temporary identifiers.
     pub fn stage(&mut self, changes: &ChangeList) -> Result<(), NoMemory>
         requires { CanStage (tx_of self.old) (map change_of changes.now) }
         ensures ok { OnOk result (tx_of self.new ≡ staged (tx_of self.old) (map change_of changes.now)) }

@@ -1,5 +1,5 @@
-//! Open transactions: the buffer that statements stage their changes in, and a reader that shows a database as the transaction
-//! would have it.
+//! Open transactions: the buffer that statements stage their changes in, and a reader that shows a database as the
+//! transaction would have it.
 #![tactic(auto)]
 
 mod buffer;
@@ -9,6 +9,3 @@ mod reader;
 
 pub use buffer::TxBuffer;
 pub use reader::TxReader;
-
-#[cfg(test)]
-mod tests;

@@ -1,10 +1,11 @@
 // One change more among the changes of a transaction, beside the identifiers that they name, in their order.
-ghost use Rattle.std.specs.Prelude.{◌≡◌, ◌+◌, ◌<◌, ◌≤◌, [], ◌∷◌, ℕ, false, length, map, vec_len, vec_capacity, position, is_some};
+ghost use Rattle.std.specs.Prelude.{◌≡◌, ◌+◌, ◌<◌, ◌≤◌, [], ◌∷◌, ℕ, false, length, map, vec_len, vec_capacity};
+ghost use Rattle.std.specs.Prelude.{position, is_some};
 ghost use Rattle.std.specs.List.{list_any};
 ghost use Rattle.indexmap.specs.IndexSet.{spare};
-ghost use Rattle.ori_spec.specs.Apply.{target, same_rid};
-ghost use Rattle.ori_spec.specs.Base.{update, delete};
-ghost use Rattle.ori_spec.specs.Staging.{merged, with_change};
+ghost use Rattle.ori_spec_data.specs.Apply.{target, same_rid};
+ghost use Rattle.ori_spec_data.specs.Base.{update, delete};
+ghost use Rattle.ori_spec_data.specs.Staging.{merged, with_change};
 ghost use Rattle.ori_model.specs.Data.{change_of};
 ghost use Rattle.ori_txn.specs.Places.{with_changes, is_create, merged_at, AreBeside};
 
@@ -35,7 +36,8 @@ pub fn place_of(places: &IndexSet<Rid>, rid: Rid) -> Option<usize>
 
 // An update on top of an earlier change of the same record.
 fn update_change(change: &mut Change, fields: FieldList)
-    ensures { (rid : _) (version : ℕ) → merged (change_of change.old) (update rid version fields) ≡ change_of change.new ∷ [] }
+    ensures { (rid : _) (version : ℕ) → merged (change_of change.old) (update rid version fields)
+        ≡ change_of change.new ∷ [] }
 {
     match change {
         Change::Create { fields: first, .. } => *first = fields,
@@ -90,7 +92,8 @@ fn delete_change(change: &mut Change)
 fn merge_at(changes: &mut Vec<Change>, places: &mut IndexSet<Rid>, at: usize, later: Change)
     requires within { at < vec_len changes.old }
     requires beside { AreBeside changes.old.items places.old.keys }
-    ensures merged { map change_of changes.new.items ≡ merged_at (map change_of changes.old.items) at (change_of later) }
+    ensures merged { map change_of changes.new.items
+        ≡ merged_at (map change_of changes.old.items) at (change_of later) }
     ensures beside { AreBeside changes.new.items places.new.keys }
     ensures len { vec_len changes.new ≤ vec_len changes.old }
     ensures capacity { vec_capacity changes.new ≡ vec_capacity changes.old }
@@ -137,7 +140,8 @@ pub fn put_all(changes: &mut Vec<Change>, places: &mut IndexSet<Rid>, more: Vec<
     requires room { vec_len changes.old + vec_len more ≤ vec_capacity changes.old }
     requires spare { vec_len more ≤ spare places.old }
     requires beside { AreBeside changes.old.items places.old.keys }
-    ensures put { map change_of changes.new.items ≡ with_changes (map change_of changes.old.items) (map change_of more.items) }
+    ensures put { map change_of changes.new.items
+        ≡ with_changes (map change_of changes.old.items) (map change_of more.items) }
     ensures beside { AreBeside changes.new.items places.new.keys }
 {
     for change in more {

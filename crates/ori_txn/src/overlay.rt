@@ -1,7 +1,7 @@
 // The changes that a reader lays over what another shows, and how the change of an identifier is found among them.
 ghost use Rattle.std.specs.Prelude.{◌≡◌, ◌∷◌, [], map, option_map};
-ghost use Rattle.ori_spec.specs.Apply.{IsFormed};
-ghost use Rattle.ori_spec.specs.Staging.{change_at};
+ghost use Rattle.ori_spec_data.specs.Apply.{IsFormed};
+ghost use Rattle.ori_spec_data.specs.Staging.{change_at};
 ghost use Rattle.ori_model.specs.Data.{change_of, tx_of};
 ghost use Rattle.ori_txn.specs.Places.{keys_of, named_each, lists-prop, AreBeside};
 
@@ -11,14 +11,14 @@ use ori_bytes::Rid;
 use ori_model::{Change, Tx};
 use std::slice;
 
-/// A formed transaction, and where they are kept the places of its identifiers among the changes. These are a slice of one or
-/// none, since a caller of a reader knows the reader below it again only where no enum stands beside that.
+/// A formed transaction, and where they are kept the places of its identifiers among the changes. These are a slice of
+/// one or none, since a caller of a reader knows the reader below it again only where no enum stands beside that.
 #[derive(Clone, Copy)]
 pub struct Overlay<'a> {
     pub tx: &'a Tx,
     places: &'a [IndexSet<Rid>],
     pub ghost formed: { ∥ IsFormed (tx_of tx.now) ∥₁ },
-    ghost beside: { keys_of places.now ≡ named_each tx.now.changes places.now } by { lists-prop (keys_of places.now) (named_each tx.now.changes places.now) },
+    ghost beside: { keys_of places.now ≡ named_each tx.now.changes places.now } by { lists-prop _ _ },
 }
 
 impl<'a> Overlay<'a> {

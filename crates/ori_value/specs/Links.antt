@@ -1,7 +1,7 @@
 -- The plain links that pairs of the code stand for.
 use Rattle.std.specs.Prelude.{ℕ, List, [], ◌∷◌}
 use Rattle.ori_bytes.specs.declared.rid.Rid.{Rid}
-use Rattle.ori_spec.specs.Value.{Links, unlinked, linked}
+use Rattle.ori_spec_data.specs.Value.{Links, unlinked, linked}
 
 abbrev pub links_of : List (List ℕ × Rid) → Links
 links_of [] = unlinked

@@ -1,7 +1,7 @@
 -- Where a name stands among fields.
 use Rattle.std.specs.Prelude.{◌≡◌, ℕ, zero, suc, List}
-use Rattle.ori_spec.specs.Value.{Fields, no_pairs, pair}
-use Rattle.ori_spec.specs.Fields.{IsBefore, IsBeforeAll}
+use Rattle.ori_spec_data.specs.Value.{Fields, no_pairs, pair}
+use Rattle.ori_spec_data.specs.Fields.{IsBefore, IsBeforeAll}
 
 -- the name is that of field i, counted from 0, and greater than those before it
 abbrev pub IsAt : List ℕ → Fields → ℕ → Type 0

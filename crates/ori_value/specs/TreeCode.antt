@@ -6,7 +6,9 @@ use base.Stored.{Gv, gnil, gnum, gcons}
 use denote.Struct.Codes.{itself}
 use lib.IntN.{pos, negsuc}
 use Rattle.ori_bytes.specs.declared.rid.Rid.{Rid}
-use Rattle.ori_spec.specs.Value.{Tree, null, boolean, integer, short, long, datetime, str, binary, embedded, embedded_list, embedded_map, link, link_list, link_set, link_map, byte, Trees, no_trees, more_trees, Fields, no_pairs, pair, Links, unlinked, linked}
+use Rattle.ori_spec_data.specs.Value.{Tree, null, boolean, integer, short, long, datetime, str, binary, embedded}
+use Rattle.ori_spec_data.specs.Value.{embedded_list, embedded_map, link, link_list, link_set, link_map, byte, Trees}
+use Rattle.ori_spec_data.specs.Value.{no_trees, more_trees, Fields, no_pairs, pair, Links, unlinked, linked}
 
 abbrev bool_code : Bool → Gv
 bool_code true = gnum 1

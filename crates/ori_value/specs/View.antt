@@ -1,8 +1,12 @@
 -- The plain tree that a value of the code stands for.
 use Rattle.std.specs.Prelude.{ℕ, List, [], ◌∷◌}
-use Rattle.ori_spec.specs.Value.{Tree, null, boolean, integer, short, long, datetime, str, binary, embedded, embedded_list, embedded_map, link, link_list, link_set, link_map, byte, Trees, no_trees, more_trees, Fields, no_pairs, pair}
+use Rattle.ori_spec_data.specs.Value.{Tree, null, boolean, integer, short, long, datetime, str, binary, embedded}
+use Rattle.ori_spec_data.specs.Value.{embedded_list, embedded_map, link, link_list, link_set, link_map, byte, Trees}
+use Rattle.ori_spec_data.specs.Value.{no_trees, more_trees, Fields, no_pairs, pair}
 use Rattle.ori_value.specs.declared.value.Value.{Value}
-use Rattle.ori_value.specs.declared.value.Value.TheVariants.{Null, Boolean, Integer, Short, Long, Datetime, Str, Binary, Embedded, EmbeddedList, EmbeddedMap, Link, LinkList, LinkSet, LinkMap, Byte}
+use Rattle.ori_value.specs.declared.value.Value.TheVariants.{Null, Boolean, Integer, Short, Long, Datetime, Str, Binary}
+use Rattle.ori_value.specs.declared.value.Value.TheVariants.{Embedded, EmbeddedList, EmbeddedMap, Link, LinkList}
+use Rattle.ori_value.specs.declared.value.Value.TheVariants.{LinkSet, LinkMap, Byte}
 
 abbrev pub tree_of : Value → Tree
 tree_of Null = null

@@ -1,7 +1,7 @@
 // Fields: names with values.
 ghost use Rattle.std.specs.Prelude.{◌≡◌, IfOk, IfErr, OnOk, OnErr, IsSome, IsOk, IsTrue, ◌↔◌, is_some, option_map};
-ghost use Rattle.ori_spec.specs.Value.{no_pairs};
-ghost use Rattle.ori_spec.specs.Fields.{field, put, without, IsRising};
+ghost use Rattle.ori_spec_data.specs.Value.{no_pairs};
+ghost use Rattle.ori_spec_data.specs.Fields.{field, put, without, IsRising};
 ghost use Rattle.ori_value.specs.Places.{IsAt, IsGap};
 ghost use Rattle.ori_value.specs.View.{tree_of, fields_of};
 
@@ -10,23 +10,23 @@ use ori_bytes::{NoMemory, Text};
 use std::alloc::Global;
 use std::marker::Model;
 
-/// Names and their values, which a contract sees as the pairs of a name and the value's plain tree. Names differ and rise in
-/// byte order.
+/// Names and their values, which a contract sees as the pairs of a name and the value's plain tree. Names differ and
+/// rise in byte order.
 #[cycle(values)]
-#[derive(Debug, Drop)]
+#[derive(Drop)]
 pub struct FieldList {
     pairs: Vec<(Text, Value)>,
 }
 
 impl Model for FieldList {
-    ghost use Rattle.ori_spec.specs.Value.{Fields, fields_nesting};
+    ghost use Rattle.ori_spec_data.specs.Value.{Fields, fields_nesting};
     ghost use Rattle.ori_value.specs.TreeCode.{coded_fields};
 
     ghost Value = { Fields };
 
     ghost coded = { coded_fields };
 
-    ghost use Rattle.ori_spec.specs.Fields.{IsRising};
+    ghost use Rattle.ori_spec_data.specs.Fields.{IsRising};
     ghost use Rattle.ori_value.specs.View.{fields_of};
 
     ghost view = { λ l. fields_of l.pairs.items };
@@ -86,8 +86,8 @@ impl FieldList {
         }
     }
 
-    /// Puts a value at a name, in place of the one there. Unchanged where memory is wanting, which it isn't where the name is
-    /// there.
+    /// Puts a value at a name, in place of the one there. Unchanged where memory is wanting, which it isn't where the
+    /// name is there.
     pub fn set(&mut self, name: Text, value: Value) -> Result<(), NoMemory>
         ensures ok { OnOk result (self.new ≡ put name (tree_of value) self.old) }
         ensures err { OnErr result (self.new ≡ self.old) }

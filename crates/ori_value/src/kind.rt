@@ -1,7 +1,7 @@
 // Kinds of values.
 
 /// The kinds that a value can have. Null has none.
-#[derive(Clone, Copy, Debug, PartialEq, Eq)]
+#[derive(Clone, Copy, PartialEq, Eq)]
 pub enum Kind {
     Boolean,
     Integer,

@@ -1,7 +1,7 @@
 //! Values, documents and the lists of them, as the code holds them.
 //!
-//! Contracts see a value as its plain tree: `tree_of` leads from a `Value` to it, and lists of values and of fields are seen
-//! as the lists of their trees.
+//! Contracts see a value as its plain tree: `tree_of` leads from a `Value` to it, and lists of values and of fields are
+//! seen as the lists of their trees.
 #![tactic(auto)]
 
 mod fields;
@@ -17,6 +17,3 @@ pub use lists::{KeyList, TextList};
 pub use rid_fields::{RidFieldList, link_names_rise};
 pub use value::{Document, Value};
 pub use values::ValueList;
-
-#[cfg(test)]
-mod tests;

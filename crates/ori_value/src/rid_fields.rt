@@ -1,7 +1,7 @@
 // Names with record identifiers.
 ghost use Rattle.std.specs.Prelude.{◌≡◌, IfOk, IsTrue, ◌↔◌};
-ghost use Rattle.ori_spec.specs.Value.{unlinked};
-ghost use Rattle.ori_spec.specs.Fields.{IsRisingLinks};
+ghost use Rattle.ori_spec_data.specs.Value.{unlinked};
+ghost use Rattle.ori_spec_data.specs.Fields.{IsRisingLinks};
 ghost use Rattle.ori_value.specs.Links.{links_of};
 
 use ori_bytes::{NoMemory, Rid, Text};
@@ -9,14 +9,14 @@ use std::alloc::Global;
 use std::marker::Model;
 
 /// Names and record identifiers, which a contract sees as their pairs. Names differ and rise in byte order.
-#[derive(Debug, Drop)]
+#[derive(Drop)]
 pub struct RidFieldList {
     pairs: Vec<(Text, Rid)>,
 }
 
 impl Model for RidFieldList {
-    ghost use Rattle.ori_spec.specs.Value.{Links};
-    ghost use Rattle.ori_spec.specs.Fields.{IsRisingLinks};
+    ghost use Rattle.ori_spec_data.specs.Value.{Links};
+    ghost use Rattle.ori_spec_data.specs.Fields.{IsRisingLinks};
     ghost use Rattle.ori_value.specs.Links.{links_of};
     ghost use Rattle.ori_value.specs.TreeCode.{coded_links};
 

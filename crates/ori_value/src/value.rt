@@ -9,7 +9,7 @@ use ori_bytes::{Blob, NoMemory, Rid, RidList, Text};
 
 /// A value of a field, of a list or of a map. Its plain tree is `tree_of` of it.
 #[cycle(values)]
-#[derive(Debug, Drop)]
+#[derive(Drop)]
 pub enum Value {
     Null,
     Boolean(bool),
@@ -33,7 +33,7 @@ pub enum Value {
 
 /// A class, whose name may be empty, and fields.
 #[cycle(values)]
-#[derive(Debug, Drop)]
+#[derive(Drop)]
 pub struct Document {
     pub class: Text,
     pub fields: FieldList,

@@ -1,6 +1,6 @@
 // Lists of values.
 ghost use Rattle.std.specs.Prelude.{◌≡◌, IfOk, OnOk, OnErr};
-ghost use Rattle.ori_spec.specs.Value.{no_trees};
+ghost use Rattle.ori_spec_data.specs.Value.{no_trees};
 ghost use Rattle.ori_value.specs.View.{add_last, tree_of, trees_of};
 
 use crate::value::Value;
@@ -10,13 +10,13 @@ use std::marker::Model;
 
 /// A list of values, which a contract sees as the list of their plain trees.
 #[cycle(values)]
-#[derive(Debug, Drop)]
+#[derive(Drop)]
 pub struct ValueList {
     values: Vec<Value>,
 }
 
 impl Model for ValueList {
-    ghost use Rattle.ori_spec.specs.Value.{Trees, trees_nesting};
+    ghost use Rattle.ori_spec_data.specs.Value.{Trees, trees_nesting};
     ghost use Rattle.ori_value.specs.TreeCode.{coded_trees};
 
     ghost Value = { Trees };

@@ -1,5 +1,7 @@
 -- What each image that a crash may leave has, after a write, a cut or a sync.
-use Rattle.std.proofs.Common.{◌≡◌, inl, inr, ◌⊎◌, ⊎_elim, ℕ, zero, suc, ◌+◌, ◌-◌, ◌^◌, ◌<◌, ◌≤◌, min, max, Bool, true, false, ◌||◌, if◌then◌else◌, nat_le, nat_lt, List, [], ◌∷◌, length, take, get_or, slice_index, refl, sym, ◌∙◌, ap, subst, arith, true≢false, length-take}
+use Rattle.std.proofs.Common.{◌≡◌, inl, inr, ◌⊎◌, ⊎_elim, ℕ, zero, suc, ◌+◌, ◌-◌, ◌^◌, ◌<◌, ◌≤◌, min, max, Bool, true}
+use Rattle.std.proofs.Common.{false, ◌||◌, if◌then◌else◌, nat_le, nat_lt, List, [], ◌∷◌, length, take, get_or}
+use Rattle.std.proofs.Common.{slice_index, refl, sym, ◌∙◌, ap, subst, arith, true≢false, length-take}
 use Rattle.std.proofs.lemmas.List.{places, get_or_past, ext_get_or}
 use Rattle.std.proofs.lemmas.Bool.Decides.{nat_tests, leb_tells}
 use Rattle.ori_volume.specs.declared.file.FileNo.{FileNo}
@@ -33,7 +35,7 @@ if_true test x y is = ap (λ (b : Bool). if b then x else y) is
 if_false : (test : Bool) (x y : ℕ) → test ≡ false → (if test then x else y) ≡ y
 if_false test x y is = ap (λ (b : Bool). if b then x else y) is
 
-bool_cases : (b : Bool) → (b ≡ true) ⊎ (b ≡ false)
+pub bool_cases : (b : Bool) → (b ≡ true) ⊎ (b ≡ false)
 bool_cases true = inl refl
 bool_cases false = inr refl
 
@@ -52,14 +54,17 @@ touched_not_after len at count k after = grind (arith, nat_tests)
 
 byte_or_none : (xs : List ℕ) (k : ℕ) → AreBytes xs → slice_index xs k < 2 ^ 8
 byte_or_none xs k bytes =
-    ⊎_elim (λ (past : (nat_le (length xs) k ≡ true) × (length xs ≤ k)). subst (λ (n : ℕ). n < 2 ^ 8) (sym (get_or_past xs k 0 past.1)) (omega arith))
+    ⊎_elim (λ (past : (nat_le (length xs) k ≡ true) × (length xs ≤ k)). subst (λ (n : ℕ). n < 2 ^ 8)
+    (sym (get_or_past xs k 0 past.1)) (omega arith))
     (λ (within : (nat_le (length xs) k ≡ false) × (k < length xs)). bytes k within.1)
     (leb_tells (length xs) k)
 
 module _ (f g : FileData) (sound : IsFileImage f f.bytes) where
-  firm_still : (reached : ℕ → Bool) (k : ℕ) → IsLoosened reached f g → f.loose k ≡ false → reached k ≡ false → g.loose k ≡ false
+  firm_still : (reached : ℕ → Bool) (k : ℕ) → IsLoosened reached f g → f.loose k ≡ false → reached k ≡ false
+      → g.loose k ≡ false
   firm_still reached k loosened firm apart =
-      ⊎_elim (λ (loose : g.loose k ≡ true). absurd (true≢false (sym (loosened.only k loose) ∙ or_is (f.loose k) (reached k) firm apart)))
+      ⊎_elim (λ (loose : g.loose k ≡ true). absurd (true≢false
+      (sym (loosened.only k loose) ∙ or_is (f.loose k) (reached k) firm apart)))
       (λ (is : g.loose k ≡ false). is)
       (bool_cases (g.loose k))
 
@@ -84,10 +89,14 @@ module _ (f g : FileData) (sound : IsFileImage f f.bytes) where
     unfolding before_write
     byte_before k within = get_or-build kept_length kept_byte k within
 
-    apart_before : (k : ℕ) → k < kept_length → is_touched (length f.bytes) at count k ≡ false → slice_index before_write k ≡ slice_index ys k
-    apart_before k within apart = byte_before k within ∙ if_false (is_touched (length f.bytes) at count k) (slice_index f.bytes k) (slice_index ys k) apart
+    apart_before : (k : ℕ) → k < kept_length → is_touched (length f.bytes) at count k ≡ false
+        → slice_index before_write k ≡ slice_index ys k
+    apart_before k within apart =
+        byte_before k within ∙ if_false (is_touched (length f.bytes) at count k) (slice_index f.bytes k)
+        (slice_index ys k) apart
 
-    same_apart : (k : ℕ) → is_touched (length f.bytes) at count k ≡ false → slice_index g.bytes k ≡ slice_index f.bytes k
+    same_apart : (k : ℕ) → is_touched (length f.bytes) at count k ≡ false
+        → slice_index g.bytes k ≡ slice_index f.bytes k
     same_apart k apart =
         ⊎_elim (λ (front : k < min at (length f.bytes)). torn.torn.before k (omega arith) (omega arith))
         (λ (behind : at + count ≤ k). torn.torn.after k behind)
@@ -95,19 +104,30 @@ module _ (f g : FileData) (sound : IsFileImage f f.bytes) where
 
     before_is_image : IsFileImage f before_write
     before_is_image = record {
-      no_shorter = omega (arith, length-before, image.no_shorter, torn.loosened.least, torn.torn.no_shorter, sound.no_shorter, sound.no_longer);
+      no_shorter = omega (
+        arith,
+        length-before,
+        image.no_shorter,
+        torn.loosened.least,
+        torn.torn.no_shorter,
+        sound.no_shorter,
+        sound.no_longer,
+      );
       no_longer = omega (arith, length-before);
       firm = λ k within firm.
           let inside : k < kept_length = omega (arith, length-before) in
           ⊎_elim (λ (touches : is_touched (length f.bytes) at count k ≡ true).
-          byte_before k inside ∙ if_true (is_touched (length f.bytes) at count k) (slice_index f.bytes k) (slice_index ys k) touches)
+          byte_before k inside ∙ if_true (is_touched (length f.bytes) at count k) (slice_index f.bytes k)
+          (slice_index ys k) touches)
           (λ (apart : is_touched (length f.bytes) at count k ≡ false).
-          apart_before k inside apart ∙ image.firm k (omega arith) (firm_still (is_touched (length f.bytes) at count) k torn.loosened firm apart) ∙ same_apart k apart)
+          apart_before k inside apart ∙ image.firm k (omega arith)
+          (firm_still (is_touched (length f.bytes) at count) k torn.loosened firm apart) ∙ same_apart k apart)
           (bool_cases (is_touched (length f.bytes) at count k));
       are_bytes = λ k within.
           let inside : k < kept_length = omega (arith, length-before) in
           ⊎_elim (λ (touches : is_touched (length f.bytes) at count k ≡ true).
-          subst (λ (n : ℕ). n < 2 ^ 8) (sym (byte_before k inside ∙ if_true (is_touched (length f.bytes) at count k) (slice_index f.bytes k) (slice_index ys k) touches))
+          subst (λ (n : ℕ). n < 2 ^ 8) (sym (byte_before k inside
+          ∙ if_true (is_touched (length f.bytes) at count k) (slice_index f.bytes k) (slice_index ys k) touches))
           (byte_or_none f.bytes k sound.are_bytes))
           (λ (apart : is_touched (length f.bytes) at count k ≡ false).
           subst (λ (n : ℕ). n < 2 ^ 8) (sym (apart_before k inside apart)) (byte_or_none ys k image.are_bytes))
@@ -121,9 +141,11 @@ module _ (f g : FileData) (sound : IsFileImage f f.bytes) where
     torn_from_before = record {
       no_shorter = omega (arith, length-before);
       no_longer = omega (arith, length-before, long_enough);
-      before = λ k within front. sym (apart_before k (omega (arith, length-before)) (touched_not_before (length f.bytes) at count k front));
+      before = λ k within front. sym (apart_before k (omega (arith, length-before))
+          (touched_not_before (length f.bytes) at count k front));
       after = λ k behind. ⊎_elim (λ (past : (nat_le kept_length k ≡ true) × (kept_length ≤ k)).
-          get_or_past ys k 0 (omega (arith, past.1, long_enough)) ∙ sym (get_or_past before_write k 0 (omega (arith, past.1, length-before))))
+          get_or_past ys k 0 (omega (arith, past.1, long_enough))
+          ∙ sym (get_or_past before_write k 0 (omega (arith, past.1, length-before))))
           (λ (within : (nat_le kept_length k ≡ false) × (k < kept_length)).
           sym (apart_before k within.1 (touched_not_after (length f.bytes) at count k (omega arith))))
           (leb_tells kept_length k);
@@ -151,15 +173,22 @@ module _ (f g : FileData) (sound : IsFileImage f f.bytes) where
     byte_uncut k within = get_or-build uncut_length uncut_byte k within
 
     front_uncut : (k : ℕ) → k < uncut_length → k < to → slice_index before_cut k ≡ slice_index ys k
-    front_uncut k within front = byte_uncut k within ∙ if_true (nat_lt k to) (slice_index ys k) (slice_index f.bytes k) (grind (arith, nat_tests))
+    front_uncut k within front =
+        byte_uncut k within ∙ if_true (nat_lt k to) (slice_index ys k) (slice_index f.bytes k)
+        (grind (arith, nat_tests))
 
     back_uncut : (k : ℕ) → k < uncut_length → to ≤ k → slice_index before_cut k ≡ slice_index f.bytes k
-    back_uncut k within back = byte_uncut k within ∙ if_false (nat_lt k to) (slice_index ys k) (slice_index f.bytes k) (grind (arith, nat_tests))
+    back_uncut k within back = byte_uncut k within ∙ if_false (nat_lt k to) (slice_index ys k) (slice_index f.bytes k)
+        (grind (arith, nat_tests))
 
     cut_bytes : (min (length f.bytes) to ≤ length g.bytes) × (length g.bytes ≤ length f.bytes)
     cut_bytes =
         ⊎_elim (λ (same : g.bytes ≡ f.bytes). (omega (arith, ap length same), omega (arith, ap length same)))
-        (λ (less : g.bytes ≡ take to f.bytes). (omega (arith, ap length less, length-take to f.bytes), omega (arith, ap length less, length-take to f.bytes)))
+        (λ (less : g.bytes ≡ take to f.bytes). (
+          omega (arith, ap length less, length-take to f.bytes),
+          omega
+              (arith, ap length less, length-take to f.bytes),
+        ))
         cut.maybe
 
     cut_front : (k : ℕ) → k < to → slice_index g.bytes k ≡ slice_index f.bytes k
@@ -174,18 +203,29 @@ module _ (f g : FileData) (sound : IsFileImage f f.bytes) where
     uncut_is_image : IsFileImage f before_cut
     uncut_is_image = record {
       no_shorter = omega (arith, length-uncut);
-      no_longer = omega (arith, length-uncut, image.no_longer, cut.loosened.greatest, cut_bytes.1, sound.no_longer, sound.no_shorter);
+      no_longer = omega (
+        arith,
+        length-uncut,
+        image.no_longer,
+        cut.loosened.greatest,
+        cut_bytes.1,
+        sound.no_longer,
+        sound.no_shorter,
+      );
       firm = λ k within firm.
           let inside : k < uncut_length = omega (arith, length-uncut) in
           ⊎_elim (λ (back : (nat_le to k ≡ true) × (to ≤ k)). back_uncut k inside back.1)
           (λ (front : (nat_le to k ≡ false) × (k < to)).
           let held : k < length ys = omega (arith, inside, front.1, long_as_cut) in
-          front_uncut k inside front.1 ∙ image.firm k held (firm_still (λ j. nat_le to j) k cut.loosened firm front.0) ∙ cut_front k front.1)
+          front_uncut k inside front.1 ∙ image.firm k held (firm_still (λ j. nat_le to j) k cut.loosened firm front.0)
+          ∙ cut_front k front.1)
           (leb_tells to k);
       are_bytes = λ k within.
           let inside : k < uncut_length = omega (arith, length-uncut) in
-          ⊎_elim (λ (back : (nat_le to k ≡ true) × (to ≤ k)). subst (λ (n : ℕ). n < 2 ^ 8) (sym (back_uncut k inside back.1)) (byte_or_none f.bytes k sound.are_bytes))
-          (λ (front : (nat_le to k ≡ false) × (k < to)). subst (λ (n : ℕ). n < 2 ^ 8) (sym (front_uncut k inside front.1)) (byte_or_none ys k image.are_bytes))
+          ⊎_elim (λ (back : (nat_le to k ≡ true) × (to ≤ k)). subst (λ (n : ℕ). n < 2 ^ 8)
+          (sym (back_uncut k inside back.1)) (byte_or_none f.bytes k sound.are_bytes))
+          (λ (front : (nat_le to k ≡ false) × (k < to)). subst (λ (n : ℕ). n < 2 ^ 8)
+          (sym (front_uncut k inside front.1)) (byte_or_none ys k image.are_bytes))
           (leb_tells to k);
     }
 
@@ -201,7 +241,8 @@ module _ (f g : FileData) (sound : IsFileImage f f.bytes) where
 
 -- a written file is one that a failed write may leave too
 pub written_torn : (at : ℕ) (bytes : List ℕ) (f g : FileData) → g ≡ written f at bytes → Torn at (length bytes) f g
-written_torn at bytes f g is = tears_torn at (length bytes) f g (piece_tears at (length bytes) bytes f g (omega arith) is)
+written_torn at bytes f g is = tears_torn at (length bytes) f g
+    (piece_tears at (length bytes) bytes f g (omega arith) is)
 
 pub cut_maybe : (to : ℕ) (f g : FileData) → g ≡ cut_to f to → MaybeCut to f g
 cut_maybe to f g is = cuts_maybe to f g (keep_cuts to to f g (inl refl) is)
@@ -212,9 +253,11 @@ synced_image f g ys is image =
     let least : g.least ≡ length f.bytes = ap (λ (d : FileData). d.least) is in
     let greatest : g.greatest ≡ length f.bytes = ap (λ (d : FileData). d.greatest) is in
     let long : length ys ≡ length f.bytes = omega (arith, image.no_shorter, image.no_longer) in
-    ext_get_or 0 ys f.bytes long (λ k within. image.firm k within (ap (λ (d : FileData). d.loose k) is) ∙ ap (λ (d : FileData). slice_index d.bytes k) is)
+    ext_get_or 0 ys f.bytes long (λ k within. image.firm k within (ap (λ (d : FileData). d.loose k) is)
+    ∙ ap (λ (d : FileData). slice_index d.bytes k) is)
 
-with_image : (old : Disk) (g : FileData) (image : Files) (xs : List ℕ) (file which : FileNo) → IsImage (with_file old file g) image → IsFileImage (of_file old file) xs
+with_image : (old : Disk) (g : FileData) (image : Files) (xs : List ℕ) (file which : FileNo)
+    → IsImage (with_file old file g) image → IsFileImage (of_file old file) xs
     → IsFileImage (of_file old which) (of_file (with_file image file xs) which)
 with_image old g image xs Master Master allowed here = here
 with_image old g image xs Master LogA allowed here = allowed LogA
@@ -233,17 +276,21 @@ with_image old g image xs Pages LogA allowed here = allowed LogA
 with_image old g image xs Pages LogB allowed here = allowed LogB
 with_image old g image xs Pages Pages allowed here = here
 
-put_back : (file : FileNo) (image : Files) (xs : List ℕ) → image ≡ with_file (with_file image file xs) file (of_file image file)
+put_back : (file : FileNo) (image : Files) (xs : List ℕ) → image ≡ with_file (with_file image file xs) file
+    (of_file image file)
 put_back Master image xs = refl
 put_back LogA image xs = refl
 put_back LogB image xs = refl
 put_back Pages image xs = refl
 
 -- an image of the disk after a change of one file, and one of before it that differs in that file alone
-one_file : (file : FileNo) (D : List ℕ → List ℕ → Type 0) (old new : Disk) (image : Files) → new ≡ with_file old file (of_file new file) → IsImage new image
-    → ((xs : List ℕ) × IsFileImage (of_file old file) xs × D xs (of_file image file)) → (before : Files) × IsImage old before × ChangesFile file D before image
+one_file : (file : FileNo) (D : List ℕ → List ℕ → Type 0) (old new : Disk) (image : Files)
+    → new ≡ with_file old file (of_file new file) → IsImage new image
+    → ((xs : List ℕ) × IsFileImage (of_file old file) xs × D xs (of_file image file)) → (before : Files)
+    × IsImage old before × ChangesFile file D before image
 one_file file D old new image elsewhere allowed (xs, here, differs) =
-    let moved : IsImage (with_file old file (of_file new file)) image = subst (λ (d : Disk). IsImage d image) elsewhere allowed in (
+    let moved : IsImage (with_file old file (of_file new file)) image =
+    subst (λ (d : Disk). IsImage d image) elsewhere allowed in (
       with_file image file xs,
       λ which. with_image old (of_file new file) image xs file which moved here,
       record {
@@ -252,33 +299,44 @@ one_file file D old new image elsewhere allowed (xs, here, differs) =
       },
     )
 
-module _ (P : Files → Type 0) (file : FileNo) (old new : Disk) (sound : IsImage old (files_of old)) (all : EachImage P old) where
+module _ (P : Files → Type 0) (file : FileNo) (old new : Disk) (sound : IsImage old (files_of old))
+    (all : EachImage P old) where
   file_sound : IsFileImage (of_file old file) (of_file old file).bytes
   file_sound = subst (λ (l : List ℕ). IsFileImage (of_file old file) l) (of_files old file) (sound file)
 
   -- a fact that lasts whatever of these bytes come holds of each image after the write, done or failed
-  pub torn_lasts : (at count : ℕ) → Lasts file (min at (length (of_file old file).bytes)) (at + count - min at (length (of_file old file).bytes)) P → ChangesFile file (Torn at count) old new → EachImage P new
+  pub torn_lasts : (at count : ℕ) → Lasts file (min at (length (of_file old file).bytes))
+      (at + count - min at (length (of_file old file).bytes)) P → ChangesFile file (Torn at count) old new
+      → EachImage P new
   torn_lasts at count lasts change image allowed =
       let before =
-      one_file file (TornBytes (min at (length (of_file old file).bytes)) (at + count - min at (length (of_file old file).bytes))) old new image change.elsewhere allowed
-      (write_image (of_file old file) (of_file new file) file_sound at count change.here (of_file image file) (allowed file)) in
+      one_file file (TornBytes (min at (length (of_file old file).bytes))
+      (at + count - min at (length (of_file old file).bytes))) old new image change.elsewhere allowed
+      (write_image (of_file old file) (of_file new file) file_sound at count change.here (of_file image file)
+      (allowed file)) in
       lasts before.0 image before.2 (all before.0 before.1)
 
   pub cut_lasts : (to : ℕ) → LastsCut file to P → ChangesFile file (MaybeCut to) old new → EachImage P new
   cut_lasts to lasts change image allowed =
       let before =
-      one_file file (CutOff to) old new image change.elsewhere allowed (cut_image (of_file old file) (of_file new file) file_sound to change.here (of_file image file) (allowed file)) in
+      one_file file (CutOff to) old new image change.elsewhere allowed
+      (cut_image (of_file old file) (of_file new file) file_sound to change.here (of_file image file)
+      (allowed file)) in
       lasts before.0 image before.2 (all before.0 before.1)
 
   -- each image after a sync is one of before it
   pub sync_lasts : ChangesFile file (λ f g. g ≡ synced f) old new → EachImage P new
   sync_lasts change image allowed =
-      let same : of_file image file ≡ (of_file old file).bytes = synced_image (of_file old file) (of_file new file) (of_file image file) change.here (allowed file) in
+      let same : of_file image file ≡ (of_file old file).bytes =
+      synced_image (of_file old file) (of_file new file) (of_file image file) change.here (allowed file) in
       let before =
-      one_file file (λ xs ys. xs ≡ ys) old new image change.elsewhere allowed (of_file image file, subst (λ (l : List ℕ). IsFileImage (of_file old file) l) (sym same) file_sound, refl) in
-      subst P (sym (before.2.elsewhere ∙ ap (λ (l : List ℕ). with_file before.0 file l) (sym before.2.here) ∙ with_of before.0 file)) (all before.0 before.1)
+      one_file file (λ xs ys. xs ≡ ys) old new image change.elsewhere allowed
+      (of_file image file, subst (λ (l : List ℕ). IsFileImage (of_file old file) l) (sym same) file_sound, refl) in
+      subst P (sym (before.2.elsewhere ∙ ap (λ (l : List ℕ). with_file before.0 file l) (sym before.2.here)
+      ∙ with_of before.0 file)) (all before.0 before.1)
 
   pub same_lasts : ChangesFile file (λ f g. g ≡ f) old new → EachImage P new
   same_lasts change =
-      let same : new ≡ old = change.elsewhere ∙ ap (λ (f : FileData). with_file old file f) change.here ∙ with_of old file in
+      let same : new ≡ old = change.elsewhere ∙ ap (λ (f : FileData). with_file old file f) change.here
+      ∙ with_of old file in
       subst (EachImage P) (sym same) all

@@ -10,3 +10,4 @@ pub mod Filled
 pub mod Picked
 pub mod Lasting
 pub mod RunSteps
+pub mod Known

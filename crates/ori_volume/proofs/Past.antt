@@ -1,5 +1,6 @@
 -- The past that the notes tell of has as many moments as they count.
-use Rattle.std.proofs.Common.{◌≡◌, ℕ, ◌+◌, List, [], ◌∷◌, ◌++◌, reverse, replicate, length, refl, sym, ◌∙◌, ap, ap₂, length-append, add_comm, add-zero, zero-add, add_assoc}
+use Rattle.std.proofs.Common.{◌≡◌, ℕ, ◌+◌, List, [], ◌∷◌, ◌++◌, reverse, replicate, length, refl, sym, ◌∙◌, ap, ap₂}
+use Rattle.std.proofs.Common.{length-append, add_comm, add-zero, zero-add, add_assoc}
 use Rattle.std.proofs.lemmas.List.{length-replicate, reverse-append}
 use Rattle.ori_volume.specs.declared.note.Note.{Note}
 use Rattle.ori_volume.specs.Disk.{Four, of_file, with_file}
@@ -14,10 +15,14 @@ length-told states (note ∷ notes) =
 
 pub moments-append : (notes more : List Note) → moments_of (notes ++ more) ≡ moments_of notes + moments_of more
 moments-append [] more = sym (zero-add (moments_of more))
-moments-append (note ∷ notes) more = ap (λ (a : ℕ). note.unnoted + 1 + a) (moments-append notes more) ∙ sym (add_assoc (note.unnoted + 1) (moments_of notes) (moments_of more))
+moments-append (note ∷ notes) more =
+    ap (λ (a : ℕ). note.unnoted + 1 + a) (moments-append notes more)
+    ∙ sym (add_assoc (note.unnoted + 1) (moments_of notes) (moments_of more))
 
-pub moments_noted : (old new : List Note) (note : Note) → new ≡ old ++ note ∷ [] → moments_of new ≡ moments_of old + (note.unnoted + 1)
-moments_noted old new note is = ap moments_of is ∙ moments-append old (note ∷ []) ∙ ap (λ (a : ℕ). moments_of old + a) (add-zero (note.unnoted + 1))
+pub moments_noted : (old new : List Note) (note : Note) → new ≡ old ++ note ∷ []
+    → moments_of new ≡ moments_of old + (note.unnoted + 1)
+moments_noted old new note is =
+    ap moments_of is ∙ moments-append old (note ∷ []) ∙ ap (λ (a : ℕ). moments_of old + a) (add-zero (note.unnoted + 1))
 
 moments-reverse : (notes : List Note) → moments_of (reverse notes) ≡ moments_of notes
 moments-reverse [] = refl
@@ -27,7 +32,9 @@ moments-reverse (note ∷ notes) =
     ∙ ap (λ (a : ℕ). a + (note.unnoted + 1)) (moments-reverse notes)
     ∙ add_comm (moments_of notes) (note.unnoted + 1)
 
-pub length-past : (states : Four FileState) (unnoted : ℕ) (notes : List Note) → length (past_of states unnoted notes) ≡ unnoted + moments_of notes
+pub length-past : (states : Four FileState) (unnoted : ℕ) (notes : List Note)
+    → length (past_of states unnoted notes) ≡ unnoted + moments_of notes
 length-past states unnoted notes =
     length-append (replicate unnoted (disk_of states)) (told_past states (reverse notes))
-    ∙ ap₂ (λ (a b : ℕ). a + b) (length-replicate unnoted (disk_of states)) (length-told states (reverse notes) ∙ moments-reverse notes)
+    ∙ ap₂ (λ (a b : ℕ). a + b) (length-replicate unnoted (disk_of states))
+    (length-told states (reverse notes) ∙ moments-reverse notes)

@@ -1,5 +1,7 @@
 -- What is taken from a source, or given to a sink, in several calls is as if in one.
-use Rattle.std.proofs.Common.{◌≡◌, List, [], ◌++◌, ℕ, Option, Some, None, refl, sym, ◌∙◌, ap, append_assoc, append-nil, length, take, drop, ◌≤◌, take_at, take-append-drop, length-take-le, take_all, length-drop, drop-drop, arith, min, ◌-◌, ◌+◌}
+use Rattle.std.proofs.Common.{◌≡◌, List, [], ◌++◌, ℕ, Option, Some, None, refl, sym, ◌∙◌, ap, append_assoc, append-nil}
+use Rattle.std.proofs.Common.{length, take, drop, ◌≤◌, take_at, take-append-drop, length-take-le, take_all, length-drop}
+use Rattle.std.proofs.Common.{drop-drop, arith, min, ◌-◌, ◌+◌}
 use Rattle.ori_volume.specs.Streams.{Took, Gave}
 
 pub took_nothing : (left : Option (List ℕ)) → Took left left []
@@ -11,8 +13,12 @@ took_more None None c xs ys first second = second
 took_more None (Some bs) c xs ys first second = cc
 took_more (Some xs0) None c xs ys first second = absurd (cc (first.2))
 took_more (Some xs0) (Some bs) c xs ys first second =
-    let same : bs ≡ first.0 = cc (first.2) in
-    (second.0, first.1 ∙ ap (λ (l : List ℕ). xs ++ l) (sym same ∙ second.1) ∙ sym (append_assoc xs ys second.0), second.2)
+    let same : bs ≡ first.0 = cc (first.2) in (
+      second.0,
+      first.1 ∙ ap (λ (l : List ℕ). xs ++ l) (sym same ∙ second.1)
+          ∙ sym (append_assoc xs ys second.0),
+      second.2,
+    )
 
 pub gave_nothing : (taken : Option (List ℕ)) → Gave taken taken []
 gave_nothing None = refl
@@ -29,11 +35,13 @@ gave_more (Some xs0) (Some bs) c xs ys first second =
 -- the front of what was left stands in the slice that it was copied to
 pub took_front : (xs rest : List ℕ) (n : ℕ) → n ≤ length xs → xs ≡ take n (take n xs ++ rest) ++ drop n xs
 took_front xs rest n fits =
-    sym (take-append-drop n xs) ∙ ap (λ (l : List ℕ). l ++ drop n xs) (sym (take_at (take n xs) rest n (length-take-le n xs fits)))
+    sym (take-append-drop n xs) ∙ ap (λ (l : List ℕ). l ++ drop n xs)
+    (sym (take_at (take n xs) rest n (length-take-le n xs fits)))
 
 -- what is read of the bytes from a place on, at most as many as there is room for
 pub read_front : (bytes value slice copied rest : List ℕ) (at n room : ℕ) → drop at bytes ≡ value → slice ≡ bytes
-    → n ≡ min (length (take (length slice - at) (drop at slice))) room → copied ≡ take n (take (length slice - at) (drop at slice))
+    → n ≡ min (length (take (length slice - at) (drop at slice))) room
+    → copied ≡ take n (take (length slice - at) (drop at slice))
     → value ≡ take n (copied ++ rest) ++ drop (at + n) bytes
 read_front bytes value slice copied rest at n room value_is slice_is count copy =
     let whole : take (length slice - at) (drop at slice) ≡ drop at bytes =

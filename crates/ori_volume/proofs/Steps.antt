@@ -7,11 +7,14 @@ use Rattle.ori_volume.specs.Story.{ChangesFile}
 use Rattle.ori_volume.specs.Record.{FileState, data_of, disk_of, after_change, changed_by}
 use Rattle.ori_volume.proofs.Data.{of_disk, with_disk, of_with, with_of, changed_data}
 
-pub change_here : (file : FileNo) (change : Change) (old new : Four FileState) → new ≡ with_file old file (after_change change (of_file old file))
+pub change_here : (file : FileNo) (change : Change) (old new : Four FileState)
+    → new ≡ with_file old file (after_change change (of_file old file))
     → ChangesFile file (λ f g. g ≡ changed_by change f) (disk_of old) (disk_of new)
 change_here file change old new is = record {
-  here = seen ∙ changed_data change (of_file old file) ∙ ap (λ (f : FileData). changed_by change f) (sym (of_disk old file));
-  elsewhere = ap disk_of is ∙ with_disk old file (after_change change (of_file old file)) ∙ ap (λ (f : FileData). with_file (disk_of old) file f) (sym seen);
+  here = seen ∙ changed_data change (of_file old file) ∙ ap (λ (f : FileData). changed_by change f)
+      (sym (of_disk old file));
+  elsewhere = ap disk_of is ∙ with_disk old file (after_change change (of_file old file))
+      ∙ ap (λ (f : FileData). with_file (disk_of old) file f) (sym seen);
 }
   where
     seen : of_file (disk_of new) file ≡ data_of (after_change change (of_file old file))
@@ -20,8 +23,10 @@ change_here file change old new is = record {
         ∙ of_disk (with_file old file (after_change change (of_file old file))) file
         ∙ ap data_of (of_with old file (after_change change (of_file old file)))
 
-pub no_change_here : {T : Type 0} (file : FileNo) (old new : Four T) → new ≡ old → ChangesFile file (λ f g. g ≡ f) old new
+pub no_change_here : {T : Type 0} (file : FileNo) (old new : Four T) → new ≡ old
+    → ChangesFile file (λ f g. g ≡ f) old new
 no_change_here {T} file old new is = record {
   here = ap (λ (four : Four T). of_file four file) is;
-  elsewhere = is ∙ sym (with_of old file) ∙ ap (λ (x : T). with_file old file x) (sym (ap (λ (four : Four T). of_file four file) is));
+  elsewhere = is ∙ sym (with_of old file) ∙ ap (λ (x : T). with_file old file x)
+      (sym (ap (λ (four : Four T). of_file four file) is));
 }

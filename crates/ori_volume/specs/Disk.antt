@@ -23,8 +23,8 @@ with_file four LogA x = record { master = four.master; log_a = x; log_b = four.l
 with_file four LogB x = record { master = four.master; log_a = four.log_a; log_b = x; pages = four.pages }
 with_file four Pages x = record { master = four.master; log_a = four.log_a; log_b = four.log_b; pages = x }
 
--- a file: its bytes as a read gives them, the positions (past its end too) at which a crash may leave any byte, and its least
--- and greatest length since its last successful sync
+-- a file: its bytes as a read gives them, the positions (past its end too) at which a crash may leave any byte, and its
+-- least and greatest length since its last successful sync
 pub record FileData : Type 0 where
   pub bytes : List ℕ
   pub loose : ℕ → Bool
@@ -38,7 +38,8 @@ Disk = Four FileData
 abbrev pub Files : Type 0
 Files = Four (List ℕ)
 
--- the disk with its counts of faults; `log_faults` counts the writes, cuts and syncs of Master, LogA and LogB that failed
+-- the disk with its counts of faults; `log_faults` counts the writes, cuts and syncs of Master, LogA and LogB that
+-- failed
 pub record DiskData : Type 0 where
   pub disk : Disk
   pub faults : ℕ
@@ -55,8 +56,8 @@ files_of disk = record {
 abbrev pub AreBytes : List ℕ → Type 0
 AreBytes xs = (k : ℕ) → k < length xs → slice_index xs k < 2 ^ 8
 
--- A crash may leave this of a file: a length between the least and the greatest, and below it the byte as a read gives it where
--- the position isn't loose, and any byte where it is.
+-- A crash may leave this of a file: a length between the least and the greatest, and below it the byte as a read gives
+-- it where the position isn't loose, and any byte where it is.
 pub record IsFileImage (file : FileData) (image : List ℕ) : Type 0 where
   pub no_shorter : file.least ≤ length image
   pub no_longer : length image ≤ file.greatest

@@ -1,5 +1,6 @@
 -- What a write, a cut and a sync do to one file, where they succeed and where they fail.
-use Rattle.std.specs.Prelude.{◌≡◌, ◌⊎◌, ℕ, ◌+◌, ◌-◌, ◌<◌, ◌≤◌, min, max, Bool, false, ◌&&◌, ◌||◌, IsTrue, nat_le, nat_lt, List, ◌++◌, length, take, drop, replicate, slice_index}
+use Rattle.std.specs.Prelude.{◌≡◌, ◌⊎◌, ℕ, ◌+◌, ◌-◌, ◌<◌, ◌≤◌, min, max, Bool, false, ◌&&◌, ◌||◌, IsTrue, nat_le}
+use Rattle.std.specs.Prelude.{nat_lt, List, ◌++◌, length, take, drop, replicate, slice_index}
 use Rattle.ori_volume.specs.Disk.{FileData}
 
 -- with zeros up to that length
@@ -28,7 +29,8 @@ changed file xs test = record {
 }
 
 abbrev pub written : FileData → ℕ → List ℕ → FileData
-written file at xs = changed file (put file.bytes at xs) (λ k. file.loose k || is_touched (length file.bytes) at (length xs) k)
+written file at xs = changed file (put file.bytes at xs)
+    (λ k. file.loose k || is_touched (length file.bytes) at (length xs) k)
 
 -- `to` bytes long where it was longer; the positions from there on are loose
 abbrev pub cut_to : FileData → ℕ → FileData
@@ -43,16 +45,16 @@ synced file = record {
   greatest = length file.bytes;
 }
 
--- After a write of so many bytes that failed: anything in its range and in the gap before it, the same elsewhere, and a length
--- between.
+-- After a write of so many bytes that failed: anything in its range and in the gap before it, the same elsewhere, and a
+-- length between.
 pub record TornBytes (at count : ℕ) (old new : List ℕ) : Type 0 where
   pub no_shorter : length old ≤ length new
   pub no_longer : length new ≤ max (length old) (at + count)
   pub before : (k : ℕ) → k < length old → k < at → slice_index new k ≡ slice_index old k
   pub after : (k : ℕ) → at + count ≤ k → slice_index new k ≡ slice_index old k
 
--- After a call that failed, a position that was loose still is, and it is loose only where it was or where the call reached. Its
--- lengths since the last sync count the new one.
+-- After a call that failed, a position that was loose still is, and it is loose only where it was or where the call
+-- reached. Its lengths since the last sync count the new one.
 pub record IsLoosened (reached : ℕ → Bool) (old new : FileData) : Type 0 where
   pub still : (k : ℕ) → IsTrue (old.loose k) → IsTrue (new.loose k)
   pub only : (k : ℕ) → IsTrue (new.loose k) → IsTrue (old.loose k || reached k)

@@ -1,5 +1,6 @@
 -- What stands in memory for the outside: streams and a disk that fail at the calls they are told to.
-use Rattle.std.specs.Prelude.{◌≡◌, ◌⊎◌, ℕ, ◌+◌, ◌-◌, ◌*◌, ◌/◌, ◌%◌, ◌^◌, ◌==◌, min, max, Bool, true, false, ◌||◌, nat_le, if◌then◌else◌, List, [], length, Option, Some, None, Result, Ok, Err, is_err}
+use Rattle.std.specs.Prelude.{◌≡◌, ◌⊎◌, ℕ, ◌+◌, ◌-◌, ◌*◌, ◌/◌, ◌%◌, ◌^◌, ◌==◌, min, max, Bool, true, false, ◌||◌}
+use Rattle.std.specs.Prelude.{nat_le, if◌then◌else◌, List, [], length, Option, Some, None, Result, Ok, Err, is_err}
 use Rattle.std.specs.List.{list_any}
 use Rattle.ori_volume.specs.declared.file.FileNo.{FileNo}
 use Rattle.ori_volume.specs.declared.file.FileNo.TheVariants.{Master, LogA, LogB, Pages}
@@ -8,8 +9,8 @@ use Rattle.ori_volume.specs.Disk.{FileData, Files, firm_disk}
 use Rattle.ori_volume.specs.Effects.{changed, is_touched, TornBytes, MaybeCutBytes}
 use Rattle.ori_volume.specs.Story.{Story, Passes, Stays}
 
--- A stream: the bytes that are left, or that were taken; how many calls there were, the numbers of those that fail, and how many
--- failed, and how many of these for want of memory. Counts stop at the end of a `u64`.
+-- A stream: the bytes that are left, or that were taken; how many calls there were, the numbers of those that fail, and
+-- how many failed, and how many of these for want of memory. Counts stop at the end of a `u64`.
 pub record StreamData : Type 0 where
   pub bytes : List ℕ
   pub calls : ℕ
@@ -32,8 +33,8 @@ next_state seed = (6364136223846793005 * seed + 1442695040888963407) % 2 ^ 64
 abbrev pub drawn : ℕ → ℕ → ℕ
 drawn seed below = (next_state seed / 2 ^ 33) % below
 
--- A disk in memory: its story; how many calls there were, the numbers of those that fail, and the number from which on each
--- fails; and how many failed for want of memory. Counts stop at the end of a `u64`.
+-- A disk in memory: its story; how many calls there were, the numbers of those that fail, and the number from which on
+-- each fails; and how many failed for want of memory. Counts stop at the end of a `u64`.
 pub record VolumeData : Type 0 where
   pub story : Story
   pub calls : ℕ
@@ -80,7 +81,8 @@ pub record Looks {T E : Type 0} (old new : VolumeData) (result : Result T E) : T
   pub wants : new.wants ≡ old.wants
 
 -- a write, cut or sync that succeeds isn't planned to fail
-pub record Succeeds (file : FileNo) (planned : Bool) (done : FileData → FileData → Type 0) (old new : VolumeData) : Type 0 where
+pub record Succeeds (file : FileNo) (planned : Bool) (done : FileData → FileData → Type 0)
+    (old new : VolumeData) : Type 0 where
   pub unplanned : planned ≡ false
   pub passes : Passes file done old.story new.story
   pub faults : new.story.now.faults ≡ old.story.now.faults
@@ -90,10 +92,12 @@ pub record Succeeds (file : FileNo) (planned : Bool) (done : FileData → FileDa
 -- one that fails is counted
 pub record CountsFault (file : FileNo) (old new : VolumeData) : Type 0 where
   pub faults : new.story.now.faults ≡ one_more old.story.now.faults
-  pub log_faults : new.story.now.log_faults ≡ (if is_of_log file then one_more old.story.now.log_faults else old.story.now.log_faults)
+  pub log_faults : new.story.now.log_faults ≡ (if is_of_log file then one_more old.story.now.log_faults
+      else old.story.now.log_faults)
 
 -- it was planned
-pub record FailsAsPlanned (file : FileNo) (planned : Bool) (failed : FileData → FileData → Type 0) (old new : VolumeData) : Type 0 where
+pub record FailsAsPlanned (file : FileNo) (planned : Bool) (failed : FileData → FileData → Type 0)
+    (old new : VolumeData) : Type 0 where
   pub is_planned : planned ≡ true
   pub passes : Passes file failed old.story new.story
   pub wants : new.wants ≡ old.wants
@@ -109,10 +113,12 @@ pub record FailsAtEnd (old new : VolumeData) : Type 0 where
   pub wants : new.wants ≡ old.wants
 
 -- how a write, cut or sync answers
-abbrev pub Answers : {T E : Type 0} → FileNo → Bool → (FileData → FileData → Type 0) → (FileData → FileData → Type 0) → Result T E → VolumeData → VolumeData → Type 0
+abbrev pub Answers : {T E : Type 0} → FileNo → Bool → (FileData → FileData → Type 0) → (FileData → FileData → Type 0)
+    → Result T E → VolumeData → VolumeData → Type 0
 Answers file planned done failed (Ok _) old new = Succeeds file planned done old new
 Answers file planned done failed (Err _) old new =
-    CountsFault file old new × (FailsAsPlanned file planned failed old new ⊎ FailsForMemory file old new ⊎ FailsAtEnd old new)
+    CountsFault file old new
+    × (FailsAsPlanned file planned failed old new ⊎ FailsForMemory file old new ⊎ FailsAtEnd old new)
 
 -- the loose positions are exactly those of before and those that were reached
 abbrev pub LoosensAll : (ℕ → Bool) → FileData → FileData → Type 0

@@ -1,5 +1,6 @@
 -- How a disk in memory keeps its story: what it is now, and notes from which each earlier moment is told.
-use Rattle.std.specs.Prelude.{ℕ, ◌+◌, ◌≤◌, min, max, Bool, true, ◌&&◌, ◌||◌, nat_le, nat_lt, List, [], ◌∷◌, ◌++◌, length, take, drop, replicate, reverse, Option, Some, None}
+use Rattle.std.specs.Prelude.{ℕ, ◌+◌, ◌≤◌, min, max, Bool, true, ◌&&◌, ◌||◌, nat_le, nat_lt, List, [], ◌∷◌, ◌++◌}
+use Rattle.std.specs.Prelude.{length, take, drop, replicate, reverse, Option, Some, None}
 use Rattle.std.specs.List.{list_any}
 use Rattle.ori_volume.specs.declared.span.Span.{Span}
 use Rattle.ori_volume.specs.declared.change.Change.{Change}
@@ -55,7 +56,8 @@ respanned state xs span = record {
 
 -- a piece stands at its place, and so many positions from there on are loose
 abbrev pub after_write : ℕ → List ℕ → ℕ → FileState → FileState
-after_write at piece count state = respanned state (put state.bytes at piece) (record { from = min at (length state.bytes); end = Some (at + count) })
+after_write at piece count state = respanned state (put state.bytes at piece)
+    (record { from = min at (length state.bytes); end = Some (at + count) })
 
 -- the file ends at `keep`, and the positions from `to` on are loose
 abbrev pub after_cut : ℕ → ℕ → FileState → FileState
@@ -79,14 +81,15 @@ after_change Keep state = state
 -- a change takes back: the bytes that it overwrote or cut off stand again, and of the spans those before it
 abbrev pub undone : Undo → FileState → FileState
 undone undo state = record {
-  bytes = take undo.length (take undo.place state.bytes ++ undo.saved.items ++ drop (undo.place + length undo.saved.items) state.bytes);
+  bytes = take undo.length (take undo.place state.bytes ++ undo.saved.items
+      ++ drop (undo.place + length undo.saved.items) state.bytes);
   spans = undo.spans.items ++ take undo.kept state.spans;
   least = undo.least;
   greatest = undo.greatest;
 }
 
--- the disk at each moment before now, the newest first: at each note, newest first, the disk as it was before it, once for the
--- change and once for each call before that left no note
+-- the disk at each moment before now, the newest first: at each note, newest first, the disk as it was before it, once
+-- for the change and once for each call before that left no note
 abbrev pub told_past : Four FileState → List Note → List Disk
 told_past states [] = []
 told_past states (note ∷ notes) =
@@ -109,7 +112,8 @@ IsInRange _ = Unit {0}
 
 -- a change of a file as it stands for its data
 abbrev pub changed_by : Change → FileData → FileData
-changed_by (Write at piece count) file = changed file (put file.bytes at piece.now) (λ k. file.loose k || is_touched (length file.bytes) at count k)
+changed_by (Write at piece count) file = changed file (put file.bytes at piece.now)
+    (λ k. file.loose k || is_touched (length file.bytes) at count k)
 changed_by (Cut to keep) file = changed file (take keep file.bytes) (λ k. file.loose k || nat_le to k)
 changed_by Sync file = synced file
 changed_by Keep file = file

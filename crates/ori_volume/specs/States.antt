@@ -3,4 +3,9 @@ use Rattle.ori_volume.specs.declared.memory_file.MemFile.{MemFile}
 use Rattle.ori_volume.specs.Record.{FileState}
 
 abbrev pub state_of : MemFile → FileState
-state_of file = record { bytes = file.bytes.items; spans = file.spans.items; least = file.least; greatest = file.greatest }
+state_of file = record {
+  bytes = file.bytes.items;
+  spans = file.spans.items;
+  least = file.least;
+  greatest = file.greatest;
+}

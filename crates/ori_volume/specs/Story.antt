@@ -1,5 +1,6 @@
 -- The story of a disk: what it is now, and what it was at each earlier moment. Each write, cut and sync ends a moment.
-use Rattle.std.specs.Prelude.{◌≡◌, ◌⊎◌, ℕ, ◌+◌, ◌-◌, ◌^◌, ◌<◌, ◌≤◌, min, List, ◌∷◌, length, take, Any, Option, Some, None, Result, Ok, Err, OnErr, OnOk}
+use Rattle.std.specs.Prelude.{◌≡◌, ◌⊎◌, ℕ, ◌+◌, ◌-◌, ◌^◌, ◌<◌, ◌≤◌, min, List, ◌∷◌, length, take, Any, Option, Some}
+use Rattle.std.specs.Prelude.{None, Result, Ok, Err, OnErr, OnOk}
 use Rattle.ori_volume.specs.declared.file.FileNo.{FileNo}
 use Rattle.ori_volume.specs.declared.file.FileNo.TheVariants.{Master, LogA, LogB, Pages}
 use Rattle.ori_volume.specs.Disk.{Four, of_file, with_file, FileData, Disk, Files, DiskData, files_of, IsImage}
@@ -54,7 +55,8 @@ pub record Stays (old new : Story) : Type 0 where
   pub disk : new.now.disk ≡ old.now.disk
 
 -- a call that ends a moment: one effect on Ok, the other where it failed
-abbrev pub Ends : {T E : Type 0} → FileNo → (FileData → FileData → Type 0) → (FileData → FileData → Type 0) → Result T E → Story → Story → Type 0
+abbrev pub Ends : {T E : Type 0} → FileNo → (FileData → FileData → Type 0) → (FileData → FileData → Type 0) → Result T E
+    → Story → Story → Type 0
 Ends file done failed (Ok _) old new = Passes file done old new
 Ends file done failed (Err _) old new = Passes file failed old new ⊎ Stays old new
 
@@ -93,7 +95,8 @@ LogRose LogA before now = Rose before now
 LogRose LogB before now = Rose before now
 LogRose Pages before now = now ≡ before
 
--- the count of the log's faults never falls, and rises with each failed call on Master, LogA and LogB, and with nothing else
+-- the count of the log's faults never falls, and rises with each failed call on Master, LogA and LogB, and with nothing
+-- else
 pub record CountsLog {T E : Type 0} (file : FileNo) (before now : ℕ) (result : Result T E) : Type 0 where
   pub later : before ≤ now
   pub failed : OnErr result (LogRose file before now)

@@ -20,9 +20,11 @@ bytes_of volume LogA = volume.disk.log_a.are_bytes
 bytes_of volume LogB = volume.disk.log_b.are_bytes
 bytes_of volume Pages = volume.disk.pages.are_bytes
 
-pub told_are_bytes : (volume : MemVolume) (told : Files) → Some (files_of (volume_data volume).story.now.disk) ≡ Some told → (file : FileNo) → AreBytes (of_file told file)
+pub told_are_bytes : (volume : MemVolume) (told : Files)
+    → Some (files_of (volume_data volume).story.now.disk) ≡ Some told → (file : FileNo) → AreBytes (of_file told file)
 told_are_bytes volume told is file =
-    subst (λ (files : Files). AreBytes (of_file files file)) (some_is (files_of (volume_data volume).story.now.disk) told is) (bytes_of volume file)
+    subst (λ (files : Files). AreBytes (of_file files file))
+    (some_is (files_of (volume_data volume).story.now.disk) told is) (bytes_of volume file)
 
 image_of_file : (file : MemFile) → IsFileImage (data_of (state_of file)) file.bytes.items
 image_of_file file = record {
@@ -32,15 +34,18 @@ image_of_file file = record {
   are_bytes = file.are_bytes;
 }
 
-pub image_as_read : (volume : MemVolume) → IsImage (volume_data volume).story.now.disk (files_of (volume_data volume).story.now.disk)
+pub image_as_read : (volume : MemVolume) → IsImage (volume_data volume).story.now.disk
+    (files_of (volume_data volume).story.now.disk)
 image_as_read volume Master = image_of_file volume.disk.master
 image_as_read volume LogA = image_of_file volume.disk.log_a
 image_as_read volume LogB = image_of_file volume.disk.log_b
 image_as_read volume Pages = image_of_file volume.disk.pages
 
-pub told_reads_as_image : (volume : MemVolume) (told : Story) → Some (volume_data volume).story ≡ Some told → IsImage told.now.disk (files_of told.now.disk)
+pub told_reads_as_image : (volume : MemVolume) (told : Story) → Some (volume_data volume).story ≡ Some told
+    → IsImage told.now.disk (files_of told.now.disk)
 told_reads_as_image volume told is =
-    subst (λ (story : Story). IsImage story.now.disk (files_of story.now.disk)) (some_is (volume_data volume).story told is) (image_as_read volume)
+    subst (λ (story : Story). IsImage story.now.disk (files_of story.now.disk))
+    (some_is (volume_data volume).story told is) (image_as_read volume)
 
 pub told_is_one : (volume : MemVolume) (told : Story) → Some (volume_data volume).story ≡ Some told
     → IsTold (Some (files_of (volume_data volume).story.now.disk)) volume.faults volume.log_faults told
@@ -52,11 +57,14 @@ told_is_one volume told is =
       log_faults_now = ap (λ (story : Story). story.now.log_faults) same;
     }
 
-pub told_counts_past : (volume : MemVolume) (told : Story) → Some (volume_data volume).story ≡ Some told → moment_of (volume_data volume).story ≡ moment_of told
+pub told_counts_past : (volume : MemVolume) (told : Story) → Some (volume_data volume).story ≡ Some told
+    → moment_of (volume_data volume).story ≡ moment_of told
 told_counts_past volume told is = ap moment_of (some_is (volume_data volume).story told is)
 
 -- each file as it reads is one of its images
-pub sound : (volume : MemVolume) (file : FileNo) → IsFileImage (of_file (volume_data volume).story.now.disk file) (of_file (volume_data volume).story.now.disk file).bytes
+pub sound : (volume : MemVolume) (file : FileNo)
+    → IsFileImage (of_file (volume_data volume).story.now.disk file)
+    (of_file (volume_data volume).story.now.disk file).bytes
 sound volume Master = image_of_file volume.disk.master
 sound volume LogA = image_of_file volume.disk.log_a
 sound volume LogB = image_of_file volume.disk.log_b

@@ -4,8 +4,8 @@ use crate::span::Span;
 /// A change of one file.
 #[derive(Clone, Copy)]
 pub enum Change<'a> {
-    /// The piece comes to stand at `at`, and `count` positions from there on become loose, with the gap before them. The piece is
-    /// shorter than `count` where a write fails.
+    /// The piece comes to stand at `at`, and `count` positions from there on become loose, with the gap before them.
+    /// The piece is shorter than `count` where a write fails.
     Write {
         at: u64,
         piece: &'a [u8],

@@ -1,7 +1,5 @@
 // The one answer of the outside that isn't Ok.
-use thiserror::Error;
 
 /// A call on the outside failed. Its count of faults rose in this call, or stands at the end of a `u64`.
-#[derive(Clone, Copy, Debug, PartialEq, Eq, Error)]
-#[error("the device failed")]
+#[derive(Clone, Copy, Debug, PartialEq, Eq)]
 pub struct Failed;

@@ -2,7 +2,7 @@
 use ori_bytes::Blob;
 
 /// The bytes of the four files that a crash has left.
-#[derive(Debug, Drop)]
+#[derive(Drop)]
 pub struct Image {
     pub master: Blob,
     pub log_a: Blob,

@@ -41,7 +41,12 @@ impl MemDisk {
         log_b: MemFile,
         pages: MemFile,
     ) -> Self
-        ensures states { states_of result ≡ record { master = state_of master; log_a = state_of log_a; log_b = state_of log_b; pages = state_of pages } }
+        ensures states { states_of result ≡ record {
+          master = state_of master;
+          log_a = state_of log_a;
+          log_b = state_of log_b;
+          pages = state_of pages;
+        } }
         ensures past { past_in result ≡ [] }
         ensures moment { result.moment ≡ 0 }
     {
@@ -60,7 +65,8 @@ impl MemDisk {
     pub fn step(&mut self, file: FileNo, change: Change) -> Result<(), NoMemory>
         requires in_time { self.old.moment < end_of_time }
         requires in_range { IsInRange change }
-        ensures ok { OnOk result (states_of self.new ≡ with_file (states_of self.old) file (after_change change.entry (of_file (states_of self.old) file))) }
+        ensures ok { OnOk result (states_of self.new
+            ≡ with_file (states_of self.old) file (after_change change.entry (of_file (states_of self.old) file))) }
         ensures err { OnErr result (states_of self.new ≡ states_of self.old) }
         ensures past { past_in self.new ≡ disk_of (states_of self.old) ∷ past_in self.old }
         ensures moment { self.new.moment ≡ self.old.moment + 1 }
@@ -101,7 +107,8 @@ impl MemDisk {
     fn try_step(&mut self, file: FileNo, change: Change) -> Result<(), NoMemory>
         requires in_time { self.old.moment < end_of_time }
         requires in_range { IsInRange change }
-        ensures ok { OnOk result (states_of self.new ≡ with_file (states_of self.old) file (after_change change.entry (of_file (states_of self.old) file))) }
+        ensures ok { OnOk result (states_of self.new
+            ≡ with_file (states_of self.old) file (after_change change.entry (of_file (states_of self.old) file))) }
         ensures err { OnErr result (states_of self.new ≡ states_of self.old) }
         ensures past { OnOk result (past_in self.new ≡ disk_of (states_of self.old) ∷ past_in self.old) }
         ensures past_err { OnErr result (past_in self.new ≡ past_in self.old) }
@@ -139,8 +146,10 @@ impl MemDisk {
         requires room { vec_len self.old.notes < vec_capacity self.old.notes }
         requires in_time { self.old.moment < end_of_time }
         ensures states { states_of self.new ≡ states_of self.old }
-        ensures past { past_in self.new ≡ disk_of (with_file (states_of self.old) file (undone undo (of_file (states_of self.old) file)))
-            ∷ past_of (with_file (states_of self.old) file (undone undo (of_file (states_of self.old) file))) self.old.unnoted self.old.notes.items }
+        ensures past { past_in self.new
+            ≡ disk_of (with_file (states_of self.old) file (undone undo (of_file (states_of self.old) file)))
+            ∷ past_of (with_file (states_of self.old) file (undone undo (of_file (states_of self.old) file)))
+            self.old.unnoted self.old.notes.items }
         ensures moment { self.new.moment ≡ self.old.moment + 1 }
     {
         let unnoted = mem::replace(&mut self.unnoted, 0);

@@ -31,7 +31,12 @@ impl MemFile {
 
     /// A file with these bytes, nothing loose.
     pub fn firm(alloc: Global, bytes: Vec<u8>) -> Self
-        ensures { state_of result ≡ record { bytes = bytes.items; spans = []; least = length bytes.items; greatest = length bytes.items } }
+        ensures { state_of result ≡ record {
+          bytes = bytes.items;
+          spans = [];
+          least = length bytes.items;
+          greatest = length bytes.items;
+        } }
     {
         let length = bytes.len() as u64;
         MemFile {
@@ -217,7 +222,8 @@ fn byte_at(pick: u64, seed: u64, at: u64) -> u8
 
 // Puts those bytes at the positions of the spans.
 fn fill_spans(bytes: &mut [u8], spans: &[Span], pick: u64, seed: u64)
-    ensures { EachIndex bytes.new (λ k. slice_index bytes.new k ≡ (if in_spans spans.now k then loose_byte pick seed k else slice_index bytes.old k)) }
+    ensures { EachIndex bytes.new (λ k. slice_index bytes.new k
+        ≡ (if in_spans spans.now k then loose_byte pick seed k else slice_index bytes.old k)) }
 {
     for span in spans {
         fill_span(bytes, *span, pick, seed);
@@ -225,7 +231,8 @@ fn fill_spans(bytes: &mut [u8], spans: &[Span], pick: u64, seed: u64)
 }
 
 fn fill_span(bytes: &mut [u8], span: Span, pick: u64, seed: u64)
-    ensures { EachIndex bytes.new (λ k. slice_index bytes.new k ≡ (if in_span span k then loose_byte pick seed k else slice_index bytes.old k)) }
+    ensures { EachIndex bytes.new (λ k. slice_index bytes.new k
+        ≡ (if in_span span k then loose_byte pick seed k else slice_index bytes.old k)) }
 {
     let from = (span.from as usize).min(bytes.len());
     let end = end_within(span.end, bytes.len());

@@ -22,7 +22,13 @@ pub struct MemSource {
 impl Model for MemSource {
     ghost Value = { StreamData };
 
-    ghost view = { λ s. record { bytes = drop s.at s.bytes; calls = s.calls; failing = s.fail; faults = s.faults; wants = 0 } };
+    ghost view = { λ s. record {
+      bytes = drop s.at s.bytes;
+      calls = s.calls;
+      failing = s.fail;
+      faults = s.faults;
+      wants = 0;
+    } };
 
     ghost invariant = { λ s. s.at ≤ length s.bytes };
 }
@@ -90,7 +96,13 @@ pub struct MemSink {
 impl Model for MemSink {
     ghost Value = { StreamData };
 
-    ghost view = { λ s. record { bytes = s.taken; calls = s.calls; failing = s.fail; faults = s.faults; wants = s.wants } };
+    ghost view = { λ s. record {
+      bytes = s.taken;
+      calls = s.calls;
+      failing = s.fail;
+      faults = s.faults;
+      wants = s.wants;
+    } };
 }
 
 impl MemSink {
@@ -136,7 +148,8 @@ impl Sink for MemSink {
         ensures cause { HasCause self.old.faults self.new.faults result }
         ensures count { IfOk result (λ n. n ≡ length from.now) }
         ensures fails { IsTrue (is_listed self.old.failing self.old.calls) → IsErr result }
-        ensures wants { OnErr result (self.new.wants ≡ (if is_listed self.old.failing self.old.calls then self.old.wants else one_more self.old.wants)) }
+        ensures wants { OnErr result (self.new.wants
+            ≡ (if is_listed self.old.failing self.old.calls then self.old.wants else one_more self.old.wants)) }
         ensures fine { OnOk result (self.new.wants ≡ self.old.wants) }
         ensures calls { self.new.calls ≡ one_more self.old.calls }
         ensures failing { self.new.failing ≡ self.old.failing }

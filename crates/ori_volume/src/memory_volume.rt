@@ -16,8 +16,8 @@ use std::alloc::Global;
 /// A disk in memory, which tells everything. It keeps notes of its changes, from which its past is told.
 ///
 /// A device call is one of `len`, `read_at`, `write_at`, `cut` and `sync`. One fails where [`fail`](MemVolume::fail) or
-/// [`stop_after`](MemVolume::stop_after) asks for it, at the last moment, and, where it changes something, for want of memory: then
-/// it leaves the files as they are.
+/// [`stop_after`](MemVolume::stop_after) asks for it, at the last moment, and, where it changes something, for want of
+/// memory: then it leaves the files as they are.
 #[derive(Drop)]
 pub struct MemVolume {
     disk: MemDisk,
@@ -72,7 +72,8 @@ impl MemVolume {
         }
     }
 
-    /// The device calls with these numbers, counted from 0, will fail, and no others but for [`stop_after`](Self::stop_after).
+    /// The device calls with these numbers, counted from 0, will fail, and no others but for
+    /// [`stop_after`](Self::stop_after).
     pub fn fail(&mut self, calls: NumberList)
         ensures { volume_data self.new ≡ record (volume_data self.old) { failing = calls } }
     {
@@ -107,8 +108,8 @@ impl MemVolume {
         self.disk.file(file).is_loose(at)
     }
 
-    /// An image that a crash at this moment may leave. 0 picks the bytes as reads give them with the greatest lengths, 1 zeros at the
-    /// loose positions and the least lengths, and another number draws both.
+    /// An image that a crash at this moment may leave. 0 picks the bytes as reads give them with the greatest lengths,
+    /// 1 zeros at the loose positions and the least lengths, and another number draws both.
     pub fn crash(&self, pick: u64) -> Result<Image, NoMemory>
         ensures picked { IfOk result (λ image. IsCrash pick (volume_data self.now).story.now.disk (image_files image)) }
         ensures allowed { IfOk result (λ image. IsImage (volume_data self.now).story.now.disk (image_files image)) }
@@ -129,8 +130,10 @@ impl MemVolume {
     /// As [`crash`](Self::crash), with this byte at a loose position that lies in the picked image.
     pub fn crash_with(&self, pick: u64, file: FileNo, at: u64, byte: u8) -> Result<Image, NoMemory>
         requires loose { IsTrue ((of_file (volume_data self.now).story.now.disk file).loose at) }
-        requires inside { let f = of_file (volume_data self.now).story.now.disk file in at < crash_length pick (seed_for pick file) f.least f.greatest }
-        ensures picked { IfOk result (λ image. IsCrashWith pick file at byte (volume_data self.now).story.now.disk (image_files image)) }
+        requires inside { let f = of_file (volume_data self.now).story.now.disk file in
+            at < crash_length pick (seed_for pick file) f.least f.greatest }
+        ensures picked { IfOk result (λ image. IsCrashWith pick file at byte (volume_data self.now).story.now.disk
+            (image_files image)) }
         ensures allowed { IfOk result (λ image. IsImage (volume_data self.now).story.now.disk (image_files image)) }
     {
         let Image {
@@ -170,8 +173,10 @@ impl MemVolume {
     // Makes a change, which answers `Failed` where that is planned.
     fn change(&mut self, file: FileNo, change: Change, planned: bool) -> Result<(), Failed>
         requires { IsInRange change }
-        ensures answers { Answers file planned (λ f g. g ≡ changed_by change.entry f) (λ f g. g ≡ changed_by change.entry f) result (volume_data self.old) (volume_data self.new) }
-        ensures time { TimePasses (moment_of (volume_data self.old).story) (moment_of (volume_data self.new).story) result }
+        ensures answers { Answers file planned (λ f g. g ≡ changed_by change.entry f)
+            (λ f g. g ≡ changed_by change.entry f) result (volume_data self.old) (volume_data self.new) }
+        ensures time { TimePasses (moment_of (volume_data self.old).story)
+            (moment_of (volume_data self.new).story) result }
         ensures calls { self.new.calls ≡ self.old.calls }
         ensures failing { self.new.fail ≡ self.old.fail }
         ensures stop { self.new.stop ≡ self.old.stop }
@@ -192,7 +197,8 @@ impl MemVolume {
     // Counts a write, cut or sync that failed.
     fn count_fault(&mut self, file: FileNo) -> Failed
         ensures faults { self.new.faults ≡ one_more self.old.faults }
-        ensures log_faults { self.new.log_faults ≡ (if is_of_log file then one_more self.old.log_faults else self.old.log_faults) }
+        ensures log_faults { self.new.log_faults
+            ≡ (if is_of_log file then one_more self.old.log_faults else self.old.log_faults) }
         ensures disk { self.new.disk ≡ self.old.disk }
         ensures fail { self.new.fail ≡ self.old.fail }
         ensures stop { self.new.stop ≡ self.old.stop }
@@ -230,8 +236,10 @@ impl Volume for MemVolume {
     ghost log_faults = { λ v. v.log_faults };
 
     fn len(&mut self, file: FileNo) -> Result<u64, Failed>
-        ensures value { IfOk result (λ n. IfSome (Some (files_of (volume_data self.old).story.now.disk)) (λ fs. n ≡ length (of_file fs file))) }
-        ensures files { Some (files_of (volume_data self.new).story.now.disk) ≡ Some (files_of (volume_data self.old).story.now.disk) }
+        ensures value { IfOk result (λ n. IfSome (Some (files_of (volume_data self.old).story.now.disk))
+            (λ fs. n ≡ length (of_file fs file))) }
+        ensures files { Some (files_of (volume_data self.new).story.now.disk)
+            ≡ Some (files_of (volume_data self.old).story.now.disk) }
         ensures story { Tells Reads (Some (volume_data self.old).story) (Some (volume_data self.new).story) }
         ensures time { moment_of (volume_data self.new).story ≡ moment_of (volume_data self.old).story }
         ensures log_faults { self.new.log_faults ≡ self.old.log_faults }
@@ -250,8 +258,10 @@ impl Volume for MemVolume {
     }
 
     fn read_at(&mut self, file: FileNo, at: u64, into: &mut [u8]) -> Result<(), Failed>
-        ensures value { OnOk result (IfSome (Some (files_of (volume_data self.old).story.now.disk)) (λ fs. into.new ≡ read_bytes (of_file fs file) at (length into.old))) }
-        ensures files { Some (files_of (volume_data self.new).story.now.disk) ≡ Some (files_of (volume_data self.old).story.now.disk) }
+        ensures value { OnOk result (IfSome (Some (files_of (volume_data self.old).story.now.disk))
+            (λ fs. into.new ≡ read_bytes (of_file fs file) at (length into.old))) }
+        ensures files { Some (files_of (volume_data self.new).story.now.disk)
+            ≡ Some (files_of (volume_data self.old).story.now.disk) }
         ensures story { Tells Reads (Some (volume_data self.old).story) (Some (volume_data self.new).story) }
         ensures time { moment_of (volume_data self.new).story ≡ moment_of (volume_data self.old).story }
         ensures log_faults { self.new.log_faults ≡ self.old.log_faults }
@@ -273,12 +283,17 @@ impl Volume for MemVolume {
     /// Where it fails as planned, a front of the bytes is written, and the whole range and the gap are loose.
     fn write_at(&mut self, file: FileNo, at: u64, from: &[u8]) -> Result<(), Failed>
         requires { at + length from.now ≤ MAX_FILE_BYTES }
-        ensures files { Tells (FilesWrite file at from.now result) (Some (files_of (volume_data self.old).story.now.disk)) (Some (files_of (volume_data self.new).story.now.disk)) }
-        ensures story { Tells (Writes file at from.now result) (Some (volume_data self.old).story) (Some (volume_data self.new).story) }
-        ensures time { TimePasses (moment_of (volume_data self.old).story) (moment_of (volume_data self.new).story) result }
+        ensures files { Tells (FilesWrite file at from.now result)
+            (Some (files_of (volume_data self.old).story.now.disk))
+            (Some (files_of (volume_data self.new).story.now.disk)) }
+        ensures story { Tells (Writes file at from.now result) (Some (volume_data self.old).story)
+            (Some (volume_data self.new).story) }
+        ensures time { TimePasses (moment_of (volume_data self.old).story)
+            (moment_of (volume_data self.new).story) result }
         ensures log_faults { CountsLog file self.old.log_faults self.new.log_faults result }
         ensures cause { HasCause self.old.faults self.new.faults result }
-        ensures answers { Answers file (is_planned (volume_data self.old)) (λ f g. g ≡ written f at from.now) (Tears at (length from.now)) result (volume_data self.old) (volume_data self.new) }
+        ensures answers { Answers file (is_planned (volume_data self.old)) (λ f g. g ≡ written f at from.now)
+            (Tears at (length from.now)) result (volume_data self.old) (volume_data self.new) }
         ensures calls { Calls (volume_data self.old) (volume_data self.new) }
     {
         let number = self.calls;
@@ -303,12 +318,16 @@ impl Volume for MemVolume {
 
     /// Where it fails as planned, the positions from `to` on are loose.
     fn cut(&mut self, file: FileNo, to: u64) -> Result<(), Failed>
-        ensures files { Tells (FilesCut file to result) (Some (files_of (volume_data self.old).story.now.disk)) (Some (files_of (volume_data self.new).story.now.disk)) }
-        ensures story { Tells (Cuts file to result) (Some (volume_data self.old).story) (Some (volume_data self.new).story) }
-        ensures time { TimePasses (moment_of (volume_data self.old).story) (moment_of (volume_data self.new).story) result }
+        ensures files { Tells (FilesCut file to result) (Some (files_of (volume_data self.old).story.now.disk))
+            (Some (files_of (volume_data self.new).story.now.disk)) }
+        ensures story { Tells (Cuts file to result) (Some (volume_data self.old).story)
+            (Some (volume_data self.new).story) }
+        ensures time { TimePasses (moment_of (volume_data self.old).story)
+            (moment_of (volume_data self.new).story) result }
         ensures log_faults { CountsLog file self.old.log_faults self.new.log_faults result }
         ensures cause { HasCause self.old.faults self.new.faults result }
-        ensures answers { Answers file (is_planned (volume_data self.old)) (λ f g. g ≡ cut_to f to) (MaybeCuts to) result (volume_data self.old) (volume_data self.new) }
+        ensures answers { Answers file (is_planned (volume_data self.old)) (λ f g. g ≡ cut_to f to)
+            (MaybeCuts to) result (volume_data self.old) (volume_data self.new) }
         ensures calls { Calls (volume_data self.old) (volume_data self.new) }
     {
         let number = self.calls;
@@ -322,12 +341,16 @@ impl Volume for MemVolume {
     }
 
     fn sync(&mut self, file: FileNo) -> Result<(), Failed>
-        ensures files { Some (files_of (volume_data self.new).story.now.disk) ≡ Some (files_of (volume_data self.old).story.now.disk) }
-        ensures story { Tells (Syncs file result) (Some (volume_data self.old).story) (Some (volume_data self.new).story) }
-        ensures time { TimePasses (moment_of (volume_data self.old).story) (moment_of (volume_data self.new).story) result }
+        ensures files { Some (files_of (volume_data self.new).story.now.disk)
+            ≡ Some (files_of (volume_data self.old).story.now.disk) }
+        ensures story { Tells (Syncs file result) (Some (volume_data self.old).story)
+            (Some (volume_data self.new).story) }
+        ensures time { TimePasses (moment_of (volume_data self.old).story)
+            (moment_of (volume_data self.new).story) result }
         ensures log_faults { CountsLog file self.old.log_faults self.new.log_faults result }
         ensures cause { HasCause self.old.faults self.new.faults result }
-        ensures answers { Answers file (is_planned (volume_data self.old)) (λ f g. g ≡ synced f) (λ f g. g ≡ f) result (volume_data self.old) (volume_data self.new) }
+        ensures answers { Answers file (is_planned (volume_data self.old)) (λ f g. g ≡ synced f) (λ f g. g ≡ f) result
+            (volume_data self.old) (volume_data self.new) }
         ensures calls { Calls (volume_data self.old) (volume_data self.new) }
     {
         let number = self.calls;

@@ -13,8 +13,8 @@ pub trait Source {
     /// How often a call has failed, up to the end of a `u64`.
     ghost faults: { Self → ℕ };
 
-    /// Reads into the front of a slice, and answers how many bytes. 0 for a slice that isn't empty is the end of the input. What
-    /// stands in the rest of the slice isn't said. After `Failed` nothing was taken.
+    /// Reads into the front of a slice, and answers how many bytes. 0 for a slice that isn't empty is the end of the
+    /// input. What stands in the rest of the slice isn't said. After `Failed` nothing was taken.
     fn read(&mut self, into: &mut [u8]) -> Result<usize, Failed>
         ensures bound { IfOk result (λ n. n ≤ length into.old) }
         ensures bytes { IfOk result (λ n. Took (left self.old) (left self.new) (take n into.new)) }
@@ -35,8 +35,8 @@ pub trait Sink {
     /// How often a call has failed, up to the end of a `u64`.
     ghost faults: { Self → ℕ };
 
-    /// Takes bytes from the front of a slice, and answers how many: at least one of a slice that isn't empty. After `Failed`
-    /// nothing was taken.
+    /// Takes bytes from the front of a slice, and answers how many: at least one of a slice that isn't empty. After
+    /// `Failed` nothing was taken.
     fn write(&mut self, from: &[u8]) -> Result<usize, Failed>
         ensures bound { IfOk result (λ n. n ≤ length from.now) }
         ensures some { IfOk result (λ n. 0 < length from.now → 0 < n) }

@@ -9,11 +9,11 @@ ghost use Rattle.ori_volume.specs.Story.{Story, moment_of, Tells, Reads, Writes,
 use crate::{Failed, FileNo};
 use ori_bytes::limits::MAX_FILE_BYTES;
 
-/// A disk of four files. It may tell what a crash can leave of it, at this moment and at each earlier one; or its bytes alone; or
-/// nothing. What it tells once it tells from then on, and what it doesn't tell it never does.
+/// A disk of four files. It may tell what a crash can leave of it, at this moment and at each earlier one; or its bytes
+/// alone; or nothing. What it tells once it tells from then on, and what it doesn't tell it never does.
 ///
-/// A moment is the time between two calls that may change the disk. A stop inside a call leaves what a crash just before or
-/// just after it may leave.
+/// A moment is the time between two calls that may change the disk. A stop inside a call leaves what a crash just
+/// before or just after it may leave.
 pub trait Volume: Drop {
     /// The bytes of the files, as reads give them.
     ghost files: { Self → Option Files };
@@ -39,18 +39,19 @@ pub trait Volume: Drop {
         ensures log_faults { log_faults self.new ≡ log_faults self.old }
         ensures cause { HasCause (faults self.old) (faults self.new) result };
 
-    /// Fills a slice with the bytes of a file from `at` on, with zeros past its end. `Failed` changes nothing but `faults`, and
-    /// what it leaves in the slice isn't said.
+    /// Fills a slice with the bytes of a file from `at` on, with zeros past its end. `Failed` changes nothing but
+    /// `faults`, and what it leaves in the slice isn't said.
     fn read_at(&mut self, file: FileNo, at: u64, into: &mut [u8]) -> Result<(), Failed>
-        ensures value { OnOk result (IfSome (files self.old) (λ fs. into.new ≡ read_bytes (of_file fs file) at (length into.old))) }
+        ensures value { OnOk result (IfSome (files self.old)
+            (λ fs. into.new ≡ read_bytes (of_file fs file) at (length into.old))) }
         ensures files { files self.new ≡ files self.old }
         ensures story { Tells Reads (story self.old) (story self.new) }
         ensures time { moment self.new ≡ moment self.old }
         ensures log_faults { log_faults self.new ≡ log_faults self.old }
         ensures cause { HasCause (faults self.old) (faults self.new) result };
 
-    /// Writes bytes at a place of a file, and zeros into the gap where the file ended before it. Range and gap are loose until a
-    /// sync. After `Failed` they hold any bytes, and the length is between the old and the new one.
+    /// Writes bytes at a place of a file, and zeros into the gap where the file ended before it. Range and gap are
+    /// loose until a sync. After `Failed` they hold any bytes, and the length is between the old and the new one.
     fn write_at(&mut self, file: FileNo, at: u64, from: &[u8]) -> Result<(), Failed>
         requires { at + length from.now ≤ MAX_FILE_BYTES }
         ensures files { Tells (FilesWrite file at from.now result) (files self.old) (files self.new) }
@@ -59,8 +60,8 @@ pub trait Volume: Drop {
         ensures log_faults { CountsLog file (log_faults self.old) (log_faults self.new) result }
         ensures cause { HasCause (faults self.old) (faults self.new) result };
 
-    /// Makes a file `to` bytes long where it is longer. The positions from there on are loose until a sync. After `Failed` its
-    /// length is the old or the new one.
+    /// Makes a file `to` bytes long where it is longer. The positions from there on are loose until a sync. After
+    /// `Failed` its length is the old or the new one.
     fn cut(&mut self, file: FileNo, to: u64) -> Result<(), Failed>
         ensures files { Tells (FilesCut file to result) (files self.old) (files self.new) }
         ensures story { Tells (Cuts file to result) (story self.old) (story self.new) }
@@ -89,14 +90,17 @@ pub trait Volume: Drop {
         ensures { result ≡ faults self.now };
 
     /// What it reads are bytes.
-    ghost reads_bytes: { (volume : Self) (told : Files) → files volume ≡ Some told → (file : FileNo) → AreBytes (of_file told file) };
+    ghost reads_bytes: { (volume : Self) (told : Files) → files volume ≡ Some told → (file : FileNo)
+        → AreBytes (of_file told file) };
 
     /// Its story speaks of the files and the counts that it tells.
-    ghost tells_one: { (volume : Self) (told : Story) → story volume ≡ Some told → IsTold (files volume) (faults volume) (log_faults volume) told };
+    ghost tells_one: { (volume : Self) (told : Story) → story volume ≡ Some told
+        → IsTold (files volume) (faults volume) (log_faults volume) told };
 
     /// The moment is the number of the past disks.
     ghost counts_past: { (volume : Self) (told : Story) → story volume ≡ Some told → moment volume ≡ moment_of told };
 
     /// The disk as it reads is one of the images that a crash may leave.
-    ghost reads_as_image: { (volume : Self) (told : Story) → story volume ≡ Some told → IsImage told.now.disk (files_of told.now.disk) };
+    ghost reads_as_image: { (volume : Self) (told : Story) → story volume ≡ Some told
+        → IsImage told.now.disk (files_of told.now.disk) };
 }

@@ -1,6 +1,6 @@
 -- The words of a command.
 use Rattle.std.specs.Prelude.{ℕ, Bool, false, List, [], ◌∷◌, codes}
-use Rattle.ori_spec.specs.Apply.{same_bytes}
+use Rattle.ori_spec_data.specs.Apply.{same_bytes}
 
 -- the one word `script`
 abbrev pub is_script : List (List ℕ) → Bool

@@ -1,7 +1,7 @@
 //! The program: the store's commands over the four files of a folder, standard input and standard output.
 //!
-//! `orient` is the top call, over any volume, source, sink and gate: its clauses are the store's promises. `main` hands it the
-//! real ones.
+//! `orient` is the top call, over any volume, source, sink and gate: its clauses are the store's promises. `main` hands
+//! it the real ones.
 #![tactic(auto)]
 
 ghost use Rattle.std.specs.Prelude.{◌≡◌};

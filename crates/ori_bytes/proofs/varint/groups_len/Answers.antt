@@ -4,4 +4,5 @@ use Rattle.ori_bytes.proofs.Groups.{IsGroups-take}
 
 pub returns-clause-groups : goal.returns-clause-groups
 returns-clause-groups c =
-    rw add-one (IsGroups-take c.args.bytes.now c.in_ok-last.last (λ k. omega (arith, c.type_inv.bytes k)) (search rules) (search rules) (search rules))
+    rw add-one (IsGroups-take c.args.bytes.now c.in_ok-last.last (λ k. omega (arith, c.type_inv.bytes k)) (search rules)
+    (search rules) (search rules))

@@ -10,10 +10,13 @@ returns-in_err-push-clause-story g c = reads_then _ _ _ c.loop-page.invariant.st
 
 pub loop-page-preserved : goal.loop-page-preserved
 loop-page-preserved g c =
-    let within : length c.args.pages.now.items ≤ c.loop-page.page = omega (arith, c.len-page.ensures, c.loop-page.auto.page, c.args.pages.now.ok.0) in
+    let within : length c.args.pages.now.items ≤ c.loop-page.page = omega
+    (arith, c.len-page.ensures, c.loop-page.auto.page, c.args.pages.now.ok.0) in
     let grown : c.push.new.self.items ≡ c.loop-page.pages.items ++ c.in_ok-home.home ∷ [] = search rules in
     record {
-      value = homes_step (g.V.Volume.files c.args.volume.now) (g.V.Volume.files c.loop-page.volume) c.args.pages.now.items c.loop-page.pages.items c.push.new.self.items c.in_ok-home.home c.loop-page.page
+      value = homes_step (g.V.Volume.files c.args.volume.now)
+          (g.V.Volume.files c.loop-page.volume) c.args.pages.now.items c.loop-page.pages.items c.push.new.self.items
+          c.in_ok-home.home c.loop-page.page
           c.loop-page.invariant.files within grown c.loop-page.invariant.value c.in_ok-home.ensures.value;
       bound = omega (arith, c.loop-page.invariant.bound, c.loop-page-test.true);
       files = c.in_ok-home.ensures.files ∙ c.loop-page.invariant.files;
@@ -24,5 +27,7 @@ loop-page-preserved g c =
 
 pub returns-clause-value : goal.returns-clause-value
 returns-clause-value g c =
-    let within : length c.args.pages.now.items ≤ c.loop-page.page = omega (arith, c.len-page.ensures, c.loop-page.auto.page, c.args.pages.now.ok.0) in
-    homes_end (g.V.Volume.files c.args.volume.now) c.args.pages.now.items c.loop-page.pages.items c.loop-page.page c.args.end within c.loop-page-test.false c.loop-page.invariant.bound c.loop-page.invariant.value
+    let within : length c.args.pages.now.items ≤ c.loop-page.page = omega
+    (arith, c.len-page.ensures, c.loop-page.auto.page, c.args.pages.now.ok.0) in
+    homes_end (g.V.Volume.files c.args.volume.now) c.args.pages.now.items c.loop-page.pages.items c.loop-page.page
+    c.args.end within c.loop-page-test.false c.loop-page.invariant.bound c.loop-page.invariant.value

@@ -1,5 +1,6 @@
-use Rattle.ori_log.proofs.Stages.{tells_map}
+use Rattle.ori_volume.proofs.Known.{tells_map}
 use Rattle.ori_log.proofs.opening.write_first.Goals as goal
 
 pub returns-clause-crash : goal.returns-clause-crash
-returns-clause-crash g c = tells_map _ _ _ _ (λ old new told writes. record { sound = g.met.V.Volume.reads_as_image c.args.volume.now old told; writes = writes }) c.write_at.ensures.story
+returns-clause-crash g c = tells_map _ _ _ _ (λ old new told writes. record
+    { sound = g.met.V.Volume.reads_as_image c.args.volume.now old told; writes = writes }) c.write_at.ensures.story

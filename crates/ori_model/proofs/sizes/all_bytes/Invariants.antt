@@ -1,5 +1,5 @@
 use Rattle.std.proofs.Common.{◌≡◌, map, take}
-use Rattle.ori_spec.specs.Weighing.{changes_bytes}
+use Rattle.ori_spec_data.specs.Weighing.{changes_bytes}
 use Rattle.ori_model.specs.Data.{change_of}
 use Rattle.ori_model.proofs.sizes.all_bytes.Given as goal
 

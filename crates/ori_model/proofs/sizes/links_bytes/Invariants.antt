@@ -1,5 +1,5 @@
 use Rattle.std.proofs.Common.{◌≡◌, ◌+◌, length, take}
-use Rattle.ori_spec.specs.Sizes.{count_size, links_size}
+use Rattle.ori_spec_data.specs.Sizes.{count_size, links_size}
 use Rattle.ori_value.specs.Links.{links_of}
 use Rattle.ori_model.proofs.sizes.links_bytes.Given as goal
 

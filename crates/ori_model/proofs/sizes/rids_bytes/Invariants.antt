@@ -1,5 +1,5 @@
 use Rattle.std.proofs.Common.{◌≡◌, ◌+◌, length, take}
-use Rattle.ori_spec.specs.Sizes.{count_size, rids_size}
+use Rattle.ori_spec_data.specs.Sizes.{count_size, rids_size}
 use Rattle.ori_model.proofs.sizes.rids_bytes.Given as goal
 
 abbrev pub invariant-loop-rid : goal.invariant-loop-rid

@@ -8,5 +8,6 @@ returns-in_err-name c = rw c.from_residual.ensures (λ name at kind left e. c.in
 
 pub returns-in_err-at : goal.returns-in_err-at
 returns-in_err-at c = rw c.from_residual-in_err-at.ensures (λ name at kind left e.
-    let same = one_text c.args.entries.now name e.behind c.in_ok-name.name.now c.in_ok-name.behind.now e.named c.in_ok-name.ensures in
+    let same = one_text c.args.entries.now name e.behind c.in_ok-name.name.now c.in_ok-name.behind.now e.named
+    c.in_ok-name.ensures in
     c.in_err-at.ensures at kind left (subst (λ (x : List ℕ). BeginsPointer x at kind left) same.1 e.points))

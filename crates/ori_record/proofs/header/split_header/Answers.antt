@@ -1,8 +1,7 @@
 use Rattle.std.proofs.Common.{◌≡◌, ◌-◌, true, false, List, ℕ, ◌∷◌, length, take, drop, ap, inl, inr, sym, subst, arith}
 use Rattle.ori_record.specs.Parts.{has_entry}
-use Rattle.ori_record.proofs.Fronts.{entry_shorter}
 use Rattle.ori_record.proofs.Entries.{no_entry}
-use Rattle.ori_record.proofs.Sofar.{ahead_first, ahead_more, ahead_stuck, ahead_end, header_split, header_same, tail_is}
+use Rattle.ori_record.proofs.Sofar.{ahead_first, ahead_stuck, ahead_end, header_split, header_same, tail_is}
 use Rattle.ori_record.proofs.header.split_header.Goals as goal
 
 pub loop-left-init : goal.loop-left-init
@@ -11,18 +10,8 @@ loop-left-init c = ahead_first c.args.header.now
 pub returns-in_err-left : goal.returns-in_err-left
 returns-in_err-left c =
     let goes : has_entry c.loop-left.left.now ≡ true = cc (c.has_entry.ensures, c.loop-left-test.true) in
-    rw c.from_residual.ensures (ahead_stuck c.args.header.now c.loop-left.left.now c.loop-left.invariant goes c.in_err-left.ensures)
-
-pub loop-left-preserved : goal.loop-left-preserved
-loop-left-preserved c =
-    let goes : has_entry c.loop-left.left.now ≡ true = cc (c.has_entry.ensures, c.loop-left-test.true) in
-    let e = c.in_ok-left.field-0 in
-    ahead_more c.args.header.now c.loop-left.left.now e.name.now e.at e.kind e.left.now c.loop-left.invariant goes c.in_ok-left.ensures
-
-pub loop-left-smaller : goal.loop-left-smaller
-loop-left-smaller c =
-    let e = c.in_ok-left.field-0 in
-    entry_shorter c.loop-left.left.now e.name.now e.at e.kind e.left.now c.in_ok-left.ensures
+    rw c.from_residual.ensures (ahead_stuck c.args.header.now c.loop-left.left.now c.loop-left.invariant goes
+    c.in_err-left.ensures)
 
 pub returns-then-is_empty : goal.returns-then-is_empty
 returns-then-is_empty c = λ entries values h.
@@ -39,8 +28,10 @@ returns c =
           let header = c.args.header.now in
           let left = c.loop-left.left.now in
           let tail = sym (tail_is left some.0 some.1) in
-          let ends : left ≡ 0 ∷ take (length left - 1) (drop 1 left) = subst (λ (x : List ℕ). left ≡ 0 ∷ x) tail some.1 in (
+          let ends : left ≡ 0 ∷ take (length left - 1) (drop 1 left) =
+          subst (λ (x : List ℕ). left ≡ 0 ∷ x) tail some.1 in (
             header_split header left c.split_at.result.0.now _ c.loop-left.invariant ends c.split_at.ensures.front,
-            λ entries values h. header_same header left c.split_at.result.0.now _ c.loop-left.invariant stops ends c.split_at.ensures.front entries values h,
+            λ entries values h. header_same header left c.split_at.result.0.now _ c.loop-left.invariant stops ends
+                c.split_at.ensures.front entries values h,
           )
     ]

@@ -17,16 +17,22 @@ returns-in_default-clause-none c = λ _ r h.
 pub returns-in_default-split_header-clause-none : goal.returns-in_default-split_header-clause-none
 returns-in_default-split_header-clause-none c = λ _ r h.
     let p = parts_of c.args.bytes.now r h in
-    let same = one_head c.args.bytes.now r.version r.class p.header c.in-Some.version c.in-Some.class.now c.in-Some.header.now p.begins c.in-Some.ensures in
-    c.in_default-split_header.ensures p.entries p.values (is_header c.args.bytes.now r p c.in-Some.header.now same.headers)
+    let same = one_head c.args.bytes.now r.version r.class p.header c.in-Some.version c.in-Some.class.now
+    c.in-Some.header.now p.begins c.in-Some.ensures in
+    c.in_default-split_header.ensures p.entries p.values (is_header c.args.bytes.now r p c.in-Some.header.now
+    same.headers)
 
 pub returns-in_err-fields-clause-none : goal.returns-in_err-fields-clause-none
 returns-in_err-fields-clause-none c = λ e r h.
     let p = parts_of c.args.bytes.now r h in
-    let same = one_head c.args.bytes.now r.version r.class p.header c.in-Some.version c.in-Some.class.now c.in-Some.header.now p.begins c.in-Some.ensures in
-    let parts = c.in-Some-split_header.ensures.1 p.entries p.values (is_header c.args.bytes.now r p c.in-Some.header.now same.headers) in
-    let there : AreNamed (length c.args.bytes.now - 4 - length c.in-Some-split_header.values.now) c.in-Some-split_header.entries.now c.in-Some-split_header.values.now r.fields
-    = subst (λ (x : List ℕ). AreNamed (length c.args.bytes.now - 4 - length c.in-Some-split_header.values.now) x c.in-Some-split_header.values.now r.fields) parts.0
+    let same = one_head c.args.bytes.now r.version r.class p.header c.in-Some.version c.in-Some.class.now
+    c.in-Some.header.now p.begins c.in-Some.ensures in
+    let parts = c.in-Some-split_header.ensures.1 p.entries p.values
+    (is_header c.args.bytes.now r p c.in-Some.header.now same.headers) in
+    let there : AreNamed (length c.args.bytes.now - 4 - length c.in-Some-split_header.values.now)
+    c.in-Some-split_header.entries.now c.in-Some-split_header.values.now r.fields
+    = subst (λ (x : List ℕ). AreNamed (length c.args.bytes.now - 4 - length c.in-Some-split_header.values.now) x
+    c.in-Some-split_header.values.now r.fields) parts.0
     (subst (λ (v : List ℕ). AreNamed (length c.args.bytes.now - 4 - length v) p.entries v r.fields) parts.1 p.named) in
     let fault = err_from_is_err_and c.from_residual.result c.from_residual.ensures.1 in
     let not : fault.0 ≡ NotRecord = cc (fault.1, e) in
@@ -39,6 +45,7 @@ pub returns-clause-ok : goal.returns-clause-ok
 returns-clause-ok c =
     rw (c.in_ok-class.ensures, c.from_vec.ensures) (
       refl,
-      spelled_from c.args.bytes.now c.args.rid c.in-Some.version c.in-Some.class.now c.in-Some.header.now c.in-Some-split_header.entries.now c.in-Some-split_header.values.now (fields_of c.in_ok-fields.fields.items)
+      spelled_from c.args.bytes.now c.args.rid c.in-Some.version c.in-Some.class.now c.in-Some.header.now
+          c.in-Some-split_header.entries.now c.in-Some-split_header.values.now (fields_of c.in_ok-fields.fields.items)
           c.in-Some.ensures c.in-Some-split_header.ensures.0 c.in_ok-fields.ensures.found,
     )

@@ -8,5 +8,6 @@ returns-in_err-text c = rw c.from_residual.ensures (λ text more b. c.in_err-tex
 
 pub returns-in_default : goal.returns-in_default
 returns-in_default c = λ text more b.
-    let same = one_counted c.args.bytes.now text more c.in_ok-text.text.now c.in_ok-text.rest.now b.begins c.in_ok-text.ensures in
+    let same = one_counted c.args.bytes.now text more c.in_ok-text.text.now c.in_ok-text.rest.now b.begins
+    c.in_ok-text.ensures in
     c.in_default.ensures.cases.0 (subst (λ (t : List ℕ). IsUtf8 t) same.0 b.utf8)

@@ -12,11 +12,22 @@ returns-in_ok-put_varint-in-Integer c =
     let z = c.in-Integer.number in
     let fits : FitsSigned w32 c.in-Integer.number = search rules in
     let wide = wider_32 z fits in
-    let same : to_z w64 (of_z w64 c.from.result) ≡ z = ap (λ (x : ℤ). to_z w64 (of_z w64 x)) (c.from.ensures ∙ to_z-of_z w32 z fits) ∙ to_z-of_z w64 z wide in
-    rw c.in-Integer.is (varint_bytes z, refl, (varint_bytes-spells z wide, signed_32 z fits), c.in_ok-put_varint-in-Integer.ensures.ok ∙ ap (λ (x : ℤ). c.args.out.now ++ varint_bytes x) same)
+    let same : to_z w64 (of_z w64 c.from.result) ≡ z =
+    ap (λ (x : ℤ). to_z w64 (of_z w64 x)) (c.from.ensures ∙ to_z-of_z w32 z fits) ∙ to_z-of_z w64 z wide in
+    rw c.in-Integer.is (
+      varint_bytes z,
+      refl,
+      (varint_bytes-spells z wide, signed_32 z fits),
+      c.in_ok-put_varint-in-Integer.ensures.ok ∙ ap (λ (x : ℤ). c.args.out.now ++ varint_bytes x) same,
+    )
 
 pub returns-in_ok-put_varint-in-Long : goal.returns-in_ok-put_varint-in-Long
 returns-in_ok-put_varint-in-Long c =
     let z = c.in-Long.number in
     let fits : FitsSigned w64 c.in-Long.number = search rules in
-    rw c.in-Long.is (varint_bytes z, refl, (varint_bytes-spells z fits, signed_64 z fits), c.in_ok-put_varint-in-Long.ensures.ok ∙ ap (λ (x : ℤ). c.args.out.now ++ varint_bytes x) (to_z-of_z w64 z fits))
+    rw c.in-Long.is (
+      varint_bytes z,
+      refl,
+      (varint_bytes-spells z fits, signed_64 z fits),
+      c.in_ok-put_varint-in-Long.ensures.ok ∙ ap (λ (x : ℤ). c.args.out.now ++ varint_bytes x) (to_z-of_z w64 z fits),
+    )

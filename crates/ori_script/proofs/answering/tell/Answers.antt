@@ -1,16 +1,17 @@
-use Rattle.ori_engine.specs.Openings.{opening_of}
-use Rattle.ori_engine.specs.States.{state_of}
-use Rattle.ori_table.specs.Kept.{rows_of}
-use Rattle.ori_script.specs.Keeping.{open_in}
-use Rattle.ori_script.proofs.Telling.{engine_so, told_so}
+use Rattle.std.proofs.Common.{[]}
+use Rattle.ori_script.proofs.Telling.{told_so, opening_so}
 use Rattle.ori_script.proofs.answering.tell.Goals as goal
 
-pub returns-clause-told : goal.returns-clause-told
-returns-clause-told g c =
+pub returns-clause-stepped : goal.returns-clause-stepped
+returns-clause-stepped g c =
     let done = c.exec-reply.ensures.done in
-    let before = c.args.engine.now in
-    let after = c.exec-reply.new.keeper in
-    let engine = engine_so before.kept after.kept (opening_of before.opened) (opening_of after.opened) after.causes c.keeps.ensures.at c.keeps-2.ensures.device c.keeps-2.ensures.busy c.keeps-2.ensures.damaged
-    c.keeps-2.ensures.faultless c.keeps-2.ensures.doubted in
-    told_so (rows_of before.kept.table.0) (state_of before.kept (opening_of before.opened)) (state_of after.kept (opening_of after.opened)) before.causes after.causes c.args.text.now
-    (open_in c.args.sessions.now) (open_in c.exec-reply.new.self) c.args.session done.left engine done.current c.exec-reply.result done.executes
+    told_so [] [] _ _ _ _ _ c.args.text.now _ _ c.args.session c.exec-reply.result done.left c.is_told.ensures
+    c.is_told-2.ensures (g.met.D.Keeper.shows_base c.args.database.now) done.sessions done.executes
+
+pub returns-clause-stays : goal.returns-clause-stays
+returns-clause-stays g c =
+    let done = c.exec-reply.ensures.done in
+    record {
+      sound = c.exec-reply.ensures.endures.sound;
+      opening = opening_so c.args.session _ _ _ _ _ _ _ _ _ done.executes;
+    }

@@ -1,7 +1,7 @@
 use Rattle.std.proofs.Common.{◌≡◌, [], refl, sym, ◌∙◌, inl, inr}
 use Rattle.std.proofs.lemmas.List.{append-nil}
 use Rattle.ori_volume.proofs.Pieces.{gave_nothing}
-use Rattle.ori_spec.specs.Reply.{answer_text}
+use Rattle.ori_spec_texts.specs.Reply.{answer_text}
 use Rattle.ori_script.proofs.run.answer_line.Goals as goal
 
 pub returns-in_default-clause-answered : goal.returns-in_default-clause-answered
@@ -10,8 +10,6 @@ returns-in_default-clause-answered g c =
     record {
       answer = a.answer;
       stepped = a.stepped;
-      fault_told = a.fault_told;
-      halted_stays = a.halted_stays;
       output = [];
       unprinted = answer_text a.answer;
       text = refl;
@@ -26,8 +24,6 @@ returns-in-Ok-print-clause-answered g c =
     record {
       answer = a.answer;
       stepped = a.stepped;
-      fault_told = a.fault_told;
-      halted_stays = a.halted_stays;
       output = c.as_str.result.now;
       unprinted = [];
       text = text ∙ sym (append-nil c.as_str.result.now);
@@ -43,8 +39,6 @@ returns-clause-answered g c =
     record {
       answer = a.answer;
       stepped = a.stepped;
-      fault_told = a.fault_told;
-      halted_stays = a.halted_stays;
       output = p.part;
       unprinted = p.left;
       text = text ∙ p.parts;

@@ -1,33 +1,55 @@
-use Rattle.std.proofs.Common.{ap, arith, refl, replicate, None}
+use Rattle.std.proofs.Common.{ap, arith, refl, replicate}
 use Rattle.ori_bytes.specs.declared.limits.TheConstants.{MAX_SESSIONS}
 use Rattle.ori_text.specs.Lines.{Reading}
-use Rattle.ori_engine.specs.Openings.{opening_of}
-use Rattle.ori_engine.specs.States.{state_of}
-use Rattle.ori_script.specs.Keeping.{open_in}
-use Rattle.ori_script.proofs.Ends.{begun_of, started, not_begun}
+use Rattle.ori_spec_runs.specs.Answer.{closed}
+use Rattle.ori_script.specs.Keeping.{store}
+use Rattle.ori_script.proofs.Ends.{started, not_begun}
 use Rattle.ori_script.proofs.run.run_lines.Goals as goal
 
 pub lines-init : goal.lines-init
-lines-init g c =
-    let k = c.args.engine.now.kept in
-    let o = opening_of c.args.engine.now.opened in
-    record {
-      goes_on = λ files starts. started files _ _ _ _ c.in-Ok-new.ensures (λ base room finds. begun_of k o (open_in c.in-Ok.sessions) base room c.requires c.in-Ok.ensures (starts base room finds));
-      sound = λ first safe. safe;
-      opened = refl;
-      within = omega (arith, ap (λ (r : Reading). r.given) c.in-Ok-new.ensures);
-      source_later = omega arith;
-      sink_later = omega arith;
-    }
+lines-init g c = record {
+  goes_on = λ files starts. started files _ _ _
+      (λ base room finds. record {
+        started = starts base room finds;
+        fresh = c.requires;
+        first = refl;
+        none_failed = refl;
+        sessions = c.in-Ok.ensures;
+      }) _ c.in-Ok-new.ensures;
+  stays = record { sound = λ first safe. safe; opening = refl };
+  within = omega (arith, ap (λ (r : Reading). r.given) c.in-Ok-new.ensures);
+  source_later = omega arith;
+  sink_later = omega arith;
+}
 
 pub returns-in_default-clause-run : goal.returns-in_default-clause-run
 returns-in_default-clause-run g c = λ files starts.
-    let k = c.args.engine.now.kept in
-    let o = opening_of c.args.engine.now.opened in
-    not_begun files _ _ (record { state = state_of k o; current = replicate MAX_SESSIONS None }) (λ base room finds. begun_of k o (replicate MAX_SESSIONS None) base room c.requires refl (starts base room finds))
+    not_begun files _ _
+    (record {
+      store = store g.D.Reader.state g.D.Reader.causes c.args.database.now;
+      sessions =
+          replicate MAX_SESSIONS closed;
+    })
+    (λ base room finds. record {
+      started = starts base room finds;
+      fresh = c.requires;
+      first = refl;
+      none_failed = refl;
+      sessions = refl;
+    })
 
 pub returns-in_default-new-clause-run : goal.returns-in_default-new-clause-run
 returns-in_default-new-clause-run g c = λ files starts.
-    let k = c.args.engine.now.kept in
-    let o = opening_of c.args.engine.now.opened in
-    not_begun files _ _ (record { state = state_of k o; current = replicate MAX_SESSIONS None }) (λ base room finds. begun_of k o (replicate MAX_SESSIONS None) base room c.requires refl (starts base room finds))
+    not_begun files _ _
+    (record {
+      store = store g.D.Reader.state g.D.Reader.causes c.args.database.now;
+      sessions =
+          replicate MAX_SESSIONS closed;
+    })
+    (λ base room finds. record {
+      started = starts base room finds;
+      fresh = c.requires;
+      first = refl;
+      none_failed = refl;
+      sessions = refl;
+    })

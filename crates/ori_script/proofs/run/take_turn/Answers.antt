@@ -2,12 +2,16 @@ use Rattle.ori_script.proofs.Ends.{line_session, input_ended, line_failed, after
 use Rattle.ori_script.proofs.run.take_turn.Goals as goal
 
 pub answer_line-requires : goal.answer_line-requires
-answer_line-requires g c = let next = rw c.in-Ok-Some.field-0-is at c.in-Ok-Some.ensures.next in let m = next.moves in line_session _ m.lines _ m.advances.reads
+answer_line-requires g c =
+    let next = rw c.in-Ok-Some.field-0-is at c.in-Ok-Some.ensures.next in
+    let m = next.moves in
+    line_session _ m.lines _ m.advances.reads
 
 pub returns-in-Ok-Some-clause-turned : goal.returns-in-Ok-Some-clause-turned
 returns-in-Ok-Some-clause-turned g c = λ files l0 t0 so_far.
     let next = rw c.in-Ok-Some.field-0-is at c.in-Ok-Some.ensures.next in
-    after_line files l0 _ _ t0 _ _ _ _ _ c.in-Ok-Some.line _ c.answer_line.result so_far next c.answer_line.ensures.answered
+    after_line files l0 _ _ t0 _ _ _ _ _ c.in-Ok-Some.line _ so_far next c.answer_line.result
+    c.answer_line.ensures.answered
 
 pub returns-in-Ok-None-clause-turned : goal.returns-in-Ok-None-clause-turned
 returns-in-Ok-None-clause-turned g c = λ files l0 t0 so_far.
@@ -16,4 +20,4 @@ returns-in-Ok-None-clause-turned g c = λ files l0 t0 so_far.
 
 pub returns-in-Err-clause-turned : goal.returns-in-Err-clause-turned
 returns-in-Err-clause-turned g c = λ files l0 t0 so_far.
-    rw c.status_of.ensures (line_failed files l0 _ _ t0 _ _ _ _ _ _ c.in-Err.fault so_far c.in-Err.ensures.next)
+    rw c.status_of.ensures (line_failed files l0 _ _ t0 _ _ _ _ so_far _ _ c.in-Err.fault c.in-Err.ensures.next)

@@ -1,5 +1,5 @@
 use Rattle.std.proofs.Common.{◌∙◌, refl}
-use Rattle.ori_spec.specs.Statement.{keywords}
+use Rattle.ori_spec_texts.specs.Statement.{keywords}
 use Rattle.ori_session.proofs.Letters.{capitals_match_any}
 use Rattle.ori_session.proofs.hand.is_keyword.Goals as goal
 

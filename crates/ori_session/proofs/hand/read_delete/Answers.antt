@@ -1,10 +1,12 @@
 use Rattle.std.proofs.Common.{◌≡◌, ◌≢◌, List, ℕ, ◌++◌, codes, sym, ◌∙◌, subst, Option, Some, None, MatchOption}
 use Rattle.ori_bytes.specs.declared.rid.Rid.{Rid}
-use Rattle.ori_spec.specs.Statement.{IsLink}
+use Rattle.ori_spec_texts.specs.Statement.{IsLink}
 use Rattle.ori_session.proofs.hand.read_delete.Goals as goal
 
-is_read : (text rest : List ℕ) (r : Option Rid) → text ≡ codes "DELETE VERTEX " ++ rest → MatchOption r ((rid : Rid) → IsLink rest rid → ⊥) (λ rid. IsLink rest rid)
-    → MatchOption r ((rid : Rid) (link : List ℕ) → IsLink link rid → text ≢ codes "DELETE VERTEX " ++ link) (λ rid. (link : List ℕ) × IsLink link rid × (text ≡ codes "DELETE VERTEX " ++ link))
+is_read : (text rest : List ℕ) (r : Option Rid) → text ≡ codes "DELETE VERTEX " ++ rest
+    → MatchOption r ((rid : Rid) → IsLink rest rid → ⊥) (λ rid. IsLink rest rid)
+    → MatchOption r ((rid : Rid) (link : List ℕ) → IsLink link rid → text ≢ codes "DELETE VERTEX " ++ link)
+    (λ rid. (link : List ℕ) × IsLink link rid × (text ≡ codes "DELETE VERTEX " ++ link))
 is_read text rest None e h = λ rid link is_link f.
     let both : codes "DELETE VERTEX " ++ rest ≡ codes "DELETE VERTEX " ++ link = sym e ∙ f in
     let same : link ≡ rest = cc in
@@ -15,4 +17,5 @@ pub returns-in_err-after : goal.returns-in_err-after
 returns-in_err-after c = rw c.from_residual.ensures (λ rid link is_link. c.in_err-after.ensures link)
 
 pub returns : goal.returns
-returns c = is_read c.args.text.now c.in_ok-after.field-0.now c.read_link.result c.in_ok-after.ensures c.read_link.ensures
+returns c = is_read c.args.text.now c.in_ok-after.field-0.now c.read_link.result c.in_ok-after.ensures
+    c.read_link.ensures

@@ -1,6 +1,6 @@
-use Rattle.std.proofs.Common.{◌≡◌, true, sym, ◌∙◌}
+use Rattle.std.proofs.Common.{◌≡◌, true, sym}
 use Rattle.std.specs.List.{list_all}
-use Rattle.ori_spec.specs.Statement.{is_digit}
+use Rattle.ori_spec_texts.specs.Statement.{is_digit}
 use Rattle.ori_session.proofs.Digits.{digits_read}
 use Rattle.ori_session.proofs.hand.read_digits.Goals as goal
 

@@ -1,6 +1,6 @@
 use Rattle.std.proofs.Common.{◌≡◌, Bool, List, [], ◌∷◌, sym, subst, IfOk}
 use Rattle.std.specs.Prelude.{if◌then◌else◌}
-use Rattle.ori_spec.specs.Log.{ImageData}
+use Rattle.ori_log.specs.Log.{ImageData}
 use Rattle.ori_rows.specs.Images.{head_image}
 use Rattle.ori_table.proofs.images.head_images.Goals as goal
 

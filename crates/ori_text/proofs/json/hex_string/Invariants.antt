@@ -1,5 +1,5 @@
 use Rattle.std.proofs.Common.{◌≡◌, take, string_bytes}
-use Rattle.ori_spec.specs.Json.{hex}
+use Rattle.ori_spec_texts.specs.Json.{hex}
 use Rattle.ori_text.proofs.json.hex_string.Given as goal
 
 abbrev pub invariant-loop-byte : goal.invariant-loop-byte

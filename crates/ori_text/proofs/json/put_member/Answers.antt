@@ -6,4 +6,5 @@ use Rattle.ori_text.proofs.json.put_member.Goals as goal
 pub returns : goal.returns
 returns c =
     ap members_view c.in_ok-insert.ensures.entries
-    ∙ (members_view-insert_entry c.args.members.now.entries c.in_ok-name.name c.args.value ∙ rw c.in_ok-name.ensures.ok refl)
+    ∙ (members_view-insert_entry c.args.members.now.entries c.in_ok-name.name c.args.value
+    ∙ rw c.in_ok-name.ensures.ok refl)

@@ -8,15 +8,18 @@ pub returns-in-Some : goal.returns-in-Some
 returns-in-Some c = newline_front c.args.ended c.args.held.now c.in-Some.at c.in-Some.ensures
 
 pub returns-then-is_too_long : goal.returns-then-is_too_long
-returns-then-is_too_long c = too_long_front c.args.ended c.args.held.now c.in_default.ensures (sym c.if-is_too_long.ensures)
+returns-then-is_too_long c = too_long_front c.args.ended c.args.held.now c.in_default.ensures
+    (sym c.if-is_too_long.ensures)
 
 pub returns-then-not-ended : goal.returns-then-not-ended
 returns-then-not-ended c =
-    no_front 0 c.args.ended c.args.held.now c.in_default.ensures (sym c.if-is_too_long.ensures) (λ e. absurd (both_ways _ c.if-not-ended.true e))
+    no_front 0 c.args.ended c.args.held.now c.in_default.ensures (sym c.if-is_too_long.ensures)
+    (λ e. absurd (both_ways _ c.if-not-ended.true e))
 
 pub returns-then-is_empty : goal.returns-then-is_empty
 returns-then-is_empty c =
-    no_front 0 c.args.ended c.args.held.now c.in_default.ensures (sym c.if-is_too_long.ensures) (λ e. nil_from_length c.args.held.now (eqb-true _ _ (sym c.if-is_empty.ensures)))
+    no_front 0 c.args.ended c.args.held.now c.in_default.ensures (sym c.if-is_too_long.ensures)
+    (λ e. nil_from_length c.args.held.now (eqb-true _ _ (sym c.if-is_empty.ensures)))
 
 pub returns : goal.returns
 returns c =

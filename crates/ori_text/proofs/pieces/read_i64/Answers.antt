@@ -7,6 +7,7 @@ use mir.Syntax.{w64}
 
 pub returns : goal.returns
 returns c =
-    let plus = starts_char 43 c.args.text.now c.starts_with.result c.starts_with.ensures.cases (omega arith) (omega arith) in
+    let plus = starts_char 43 c.args.text.now c.starts_with.result c.starts_with.ensures.cases (omega arith)
+    (omega arith) in
     let no_plus : get_or c.args.text.now 0 0 ≢ 43 = λ e. both_ways _ c.if-starts_with.false (plus.1 e) in
     rw c.ok.ensures.value (parsed w64 64 refl c.args.text.now c.parse.result c.parse.ensures.value.0 no_plus)

@@ -1,4 +1,5 @@
-use Rattle.std.proofs.Common.{◌≡◌, ◌≤◌, ◌-◌, ℕ, List, length, take, drop, sym, ◌∙◌, subst, arith, take-append-drop, take-add}
+use Rattle.std.proofs.Common.{◌≡◌, ◌≤◌, ◌-◌, ℕ, List, length, take, drop, sym, ◌∙◌, subst, arith, take-append-drop}
+use Rattle.std.proofs.Common.{take-add}
 use Rattle.std.proofs.lemmas.List.{take_rest, length-drop}
 use Rattle.ori_volume.specs.Streams.{Gave}
 use Rattle.ori_volume.proofs.Pieces.{gave_more}
@@ -22,9 +23,11 @@ loop-done-preserved g c =
     let n = c.in-Ok.count in
     let fits : n ≤ length (drop done bytes) = subst (λ (s : List ℕ). n ≤ length s) rest c.in-Ok.ensures.bound in
     let more : Gave (g.K.Sink.taken c.loop-done.sink) (g.K.Sink.taken c.write.new.self) (take n (drop done bytes)) =
-    subst (λ (s : List ℕ). Gave (g.K.Sink.taken c.loop-done.sink) (g.K.Sink.taken c.write.new.self) (take n s)) rest c.in-Ok.ensures.bytes in
+    subst (λ (s : List ℕ). Gave (g.K.Sink.taken c.loop-done.sink) (g.K.Sink.taken c.write.new.self) (take n s)) rest
+    c.in-Ok.ensures.bytes in
     record {
       within = omega (arith, length-drop done bytes, c.loop-done.invariant.within);
-      gave = rw (take-add done n bytes) (gave_more _ _ _ (take done bytes) (take n (drop done bytes)) c.loop-done.invariant.gave more);
+      gave = rw (take-add done n bytes) (gave_more _ _ _ (take done bytes) (take n (drop done bytes))
+          c.loop-done.invariant.gave more);
       later = omega (arith, c.loop-done.invariant.later, c.in-Ok.ensures.cause.later);
     }

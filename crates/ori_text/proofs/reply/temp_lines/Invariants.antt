@@ -1,6 +1,6 @@
 use Rattle.std.proofs.Common.{◌≡◌, take, string_bytes}
 use Rattle.std.specs.List.{flat_map}
-use Rattle.ori_spec.specs.Reply as spec
+use Rattle.ori_spec_texts.specs.Reply as spec
 use Rattle.ori_text.proofs.reply.temp_lines.Given as goal
 
 abbrev pub invariant-loop-pair : goal.invariant-loop-pair

@@ -13,5 +13,10 @@ loop-change-preserved c =
       room = omega (arith, longer, c.put.ensures.len, c.put.ensures.capacity, c.loop-change.invariant.room);
       spare = omega (arith, longer, c.put.ensures.spare, c.loop-change.invariant.spare);
       beside = c.put.ensures.beside;
-      put = rw (c.put.ensures.put, map-append change_of c.loop-change.yielded (c.in-Some.change ∷ []), c.loop-change.invariant.put) (sym (with_changes_last _ (map change_of c.loop-change.yielded) (change_of c.in-Some.change)));
+      put = rw (
+        c.put.ensures.put,
+        map-append change_of c.loop-change.yielded (c.in-Some.change ∷ []),
+        c.loop-change.invariant.put,
+      )
+          (sym (with_changes_last _ (map change_of c.loop-change.yielded) (change_of c.in-Some.change)));
     }

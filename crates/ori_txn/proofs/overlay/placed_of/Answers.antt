@@ -4,7 +4,8 @@ use Rattle.ori_txn.proofs.overlay.placed_of.Goals as goal
 
 pub returns-in-Some : goal.returns-in-Some
 returns-in-Some c =
-    found c.args.changes.now c.in-Some.at c.index-changes-at.result c.args.rid c.index-changes-at.is (rw (← c.requires) (sym c.place_of.ensures.place ∙ c.in-Some.is))
+    found c.args.changes.now c.in-Some.at c.index-changes-at.result c.args.rid c.index-changes-at.is
+    (rw (← c.requires) (sym c.place_of.ensures.place ∙ c.in-Some.is))
 
 pub returns-in-None : goal.returns-in-None
 returns-in-None c =

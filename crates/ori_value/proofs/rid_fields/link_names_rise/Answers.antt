@@ -8,4 +8,5 @@ use Rattle.ori_value.proofs.rid_fields.link_names_rise.Goals as goal
 pub returns : goal.returns
 returns c =
     let rises = λ (p : Linked) (q : Linked). is_lt (slice_cmp nat_cmp p.0 q.0) in
-    links_tested c.args.pairs.now _ (c.is_sorted_by.ensures.cases rises (answers_always _ _ _ (λ f a r g called. search rules)))
+    links_tested c.args.pairs.now _ (c.is_sorted_by.ensures.cases rises
+    (answers_always _ _ _ (λ f a r g called. search rules)))

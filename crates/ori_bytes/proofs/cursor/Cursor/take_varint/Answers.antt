@@ -28,19 +28,23 @@ pub returns-in_err-number-clause-range : goal.returns-in_err-number-clause-range
 returns-in_err-number-clause-range c = (fault c).range
 
 -- the number is spelled at the place
-number : (c : goal.After-self-1) → Reads (rest c.args.self.now) c.args.self.now.at (Ok (to_z w64 (of_z w64 c.in_ok-number.number), c.in_ok-number.length))
+number : (c : goal.After-self-1) → Reads (rest c.args.self.now) c.args.self.now.at
+    (Ok (to_z w64 (of_z w64 c.in_ok-number.number), c.in_ok-number.length))
 number c =
-    let r : Reads (rest c.args.self.now) c.args.self.now.at (Ok (c.in_ok-number.number, c.in_ok-number.length)) = search rules in
+    let r : Reads (rest c.args.self.now) c.args.self.now.at (Ok (c.in_ok-number.number, c.in_ok-number.length)) =
+    search rules in
     let f : FitsSigned w64 c.in_ok-number.number = search rules in
     rw (to_z-of_z w64 c.in_ok-number.number f) r
 
-found : (c : goal.After-self-1) → Exact (rest c.args.self.now) c.args.self.now.at (Ok (to_z w64 (of_z w64 c.in_ok-number.number)))
+found : (c : goal.After-self-1) → Exact (rest c.args.self.now) c.args.self.now.at
+    (Ok (to_z w64 (of_z w64 c.in_ok-number.number)))
 found c = exact _ _ _ (found_begins _ c.args.self.now.at c.in_ok-number.length _ (number c))
 
 pub returns-clause-found : goal.returns-clause-found
 returns-clause-found c =
     let f = found_front (rest c.args.self.now) c.args.self.now.at c.in_ok-number.length _ (number c) in
-    let moved : advance c.in_ok-number.length c.args.self.now ≡ advance (length f.0) c.args.self.now = ap (λ n. advance n c.args.self.now) (sym f.4) in
+    let moved : advance c.in_ok-number.length c.args.self.now ≡ advance (length f.0) c.args.self.now =
+    ap (λ n. advance n c.args.self.now) (sym f.4) in
     (f.0, f.1, f.2, f.3, rw (← moved, ← c.self.view_is) refl)
 
 pub returns-clause-only : goal.returns-clause-only

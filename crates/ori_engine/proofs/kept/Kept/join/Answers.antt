@@ -1,5 +1,5 @@
 use Rattle.std.proofs.Common.{◌≡◌, ◌++◌, ◌∷◌, [], rules, ap, sym, ◌∙◌}
-use Rattle.ori_spec.specs.Weighing.{feed_bytes}
+use Rattle.ori_spec_data.specs.Weighing.{feed_bytes}
 use Rattle.ori_model.specs.Data.{entries_of, entry_of}
 use Rattle.ori_engine.proofs.Deciding.{entries_more, feed_more}
 use Rattle.ori_engine.proofs.kept.Kept.join.Goals as goal
@@ -8,8 +8,9 @@ pub invariant_of-self : goal.invariant_of-self
 invariant_of-self c =
     let pushed : c.push-2.new.self.items ≡ c.args.self.now.feed.items ++ c.args.entry ∷ [] = search rules in
     record {
-      counted = c.requires.bytes ∙ sym (ap feed_bytes (ap entries_of pushed ∙ entries_more c.args.self.now.feed.items c.args.entry) ∙ feed_more (entries_of c.args.self.now.feed.items) (entry_of c.args.entry));
+      counted = c.requires.bytes ∙ sym (ap feed_bytes
+          (ap entries_of pushed ∙ entries_more c.args.self.now.feed.items c.args.entry)
+          ∙ feed_more (entries_of c.args.self.now.feed.items) (entry_of c.args.entry));
       doubts = c.args.self.now.doubts;
-      doubted = c.args.self.now.doubted;
       roomy = c.args.self.now.roomy;
     }

@@ -1,4 +1,4 @@
-use Rattle.ori_log.proofs.Stages.{tells_map, tells_both}
+use Rattle.ori_volume.proofs.Known.{tells_both, tells_map}
 use Rattle.ori_log.proofs.Appends.{gate_failed, gate_done}
 use Rattle.ori_log.proofs.log.Log.open_gate.Goals as goal
 
@@ -6,7 +6,8 @@ pub returns-in_err-write_at-clause-crash : goal.returns-in_err-write_at-clause-c
 returns-in_err-write_at-clause-crash g c =
     tells_map _ _ _ _
     (λ old new told writes. λ records images gate names holds.
-    gate_failed c.args.self.now.file c.args.self.now.place records images c.args.self.now.in_log gate c.in_err-write_at.field-0.0 c.from_residual.result old new c.from_residual.ensures.0
+    gate_failed c.args.self.now.file c.args.self.now.place records images c.args.self.now.in_log gate
+    c.in_err-write_at.field-0.0 c.from_residual.result old new c.from_residual.ensures.0
     c.args.self.now.within (g.met.V.Volume.reads_as_image c.args.volume.now old told) writes names holds)
     c.in_err-write_at.ensures.story
 
@@ -14,6 +15,8 @@ pub returns-clause-crash : goal.returns-clause-crash
 returns-clause-crash g c =
     tells_both _ _ _ _ _ _
     (λ old mid new told told_mid writes syncs. λ records images gate names holds.
-    gate_done c.args.self.now.file c.args.self.now.place records images c.args.self.now.in_log gate c.sync.result old mid new c.args.self.now.within
-    (g.met.V.Volume.reads_as_image c.args.volume.now old told) (g.met.V.Volume.reads_as_image c.write_at.new.self mid told_mid) writes syncs names holds)
+    gate_done c.args.self.now.file c.args.self.now.place records images c.args.self.now.in_log gate c.sync.result old
+    mid new c.args.self.now.within
+    (g.met.V.Volume.reads_as_image c.args.volume.now old told)
+    (g.met.V.Volume.reads_as_image c.write_at.new.self mid told_mid) writes syncs names holds)
     c.in_ok-write_at.ensures.story c.sync.ensures.story

@@ -1,13 +1,14 @@
 use Rattle.std.proofs.Common.{◌≡◌, ◌-◌, ◌≤◌, length, IfSome, List}
 use Rattle.ori_volume.specs.Disk.{of_file}
 use Rattle.ori_volume.specs.Story.{Tells, Reads}
-use Rattle.ori_spec.specs.Log.{ImageData}
+use Rattle.ori_log.specs.Log.{ImageData}
 use Rattle.ori_log.specs.Tails.{IsBounded, ReadTo}
 use Rattle.ori_log.proofs.tail.Tail.read.Given as goal
 
 abbrev pub invariant-loop-tail : goal.invariant-loop-tail
 invariant-loop-tail g l = record {
-  value : IfSome (g.V.Volume.files l.fn.volume) (λ fs. l.fn.len ≡ length (of_file fs l.fn.file) → (records : List (List ImageData)) × ReadTo (of_file fs l.fn.file) records l.tail);
+  value : IfSome (g.V.Volume.files l.fn.volume) (λ fs. l.fn.len ≡ length (of_file fs l.fn.file)
+      → (records : List (List ImageData)) × ReadTo (of_file fs l.fn.file) records l.tail);
   counted : l.tail.records ≤ l.tail.place;
   bounded : IsBounded l.tail;
   files : g.V.Volume.files l.volume ≡ g.V.Volume.files l.fn.volume;

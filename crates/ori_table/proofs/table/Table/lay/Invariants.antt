@@ -7,7 +7,8 @@ use Rattle.ori_table.proofs.table.Table.lay.Given as goal
 
 abbrev pub invariant-loop-outcome : goal.invariant-loop-outcome
 invariant-loop-outcome l = record {
-  rows : put_rows (rows_of l.self.0) (outcomes_data (into_iter_items l.outcome-iterator)) ≡ put_rows (rows_of l.fn.self.0) (outcomes_data l.fn.outcomes.items);
+  rows : put_rows (rows_of l.self.0) (outcomes_data (into_iter_items l.outcome-iterator)) ≡ put_rows (rows_of
+      l.fn.self.0) (outcomes_data l.fn.outcomes.items);
   kept : CanLay (rows_of l.self.0) (outcomes_data (into_iter_items l.outcome-iterator));
   room : length (into_iter_items l.outcome-iterator) ≤ l.self.1;
   long : into_iter_len l.outcome-iterator ≡ length (into_iter_items l.outcome-iterator);

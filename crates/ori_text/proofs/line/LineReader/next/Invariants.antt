@@ -8,7 +8,8 @@ use Rattle.ori_text.proofs.line.LineReader.next.Given as goal
 
 abbrev pub invariant-loop-line : goal.invariant-loop-line
 invariant-loop-line g l =
-    Waits (g.S.Source.left l.fn.source) (g.S.Source.left l.source) (g.S.Source.faults l.fn.source) (g.S.Source.faults l.source) l.fn.self l.self
+    Waits (g.S.Source.left l.fn.source) (g.S.Source.left l.source) (g.S.Source.faults l.fn.source)
+    (g.S.Source.faults l.source) l.fn.self l.self
     × PromptSoFar l.fn.source l.source l.fn.self l.self
 
 abbrev pub decreases-loop-line : goal.decreases-loop-line

@@ -13,8 +13,13 @@ returns-clause-read g c =
     let capacity : vec_len i.buffer ≡ 8098 = invariant.2 in
     let fits : i.end ≤ length i.buffer.items = omega (arith, invariant.1, i.buffer.ok.0) in
     let moved : vec_len c.copy_within.new.self ≡ vec_len i.buffer = c.copy_within.ensures.len in
-    let held : length (take (i.end - i.start) (drop i.start i.buffer.items)) ≡ length c.args.self.now.held = ap (λ (r : Reading). length r.held) c.self.view_is in
-    let taken : length (take (i.end - i.start) (drop i.start i.buffer.items)) ≡ i.end - i.start = length-take-le (i.end - i.start) (drop i.start i.buffer.items) (omega (arith, length-drop i.start i.buffer.items)) in
-    reads_more _ _ i.buffer.items c.copy_within.new.self.items c.read_at.new.buffer.items i.start i.end c.in_ok-count.count i.given c.args.self.now i.ended
-    c.self.view_is c.self.invariant.0 fits c.copy_within.ensures.items read.front (omega (arith, c.read_at.new.buffer.ok.0, read.len, read.bound)) read.bytes
+    let held : length (take (i.end - i.start) (drop i.start i.buffer.items)) ≡ length c.args.self.now.held =
+    ap (λ (r : Reading). length r.held) c.self.view_is in
+    let taken : length (take (i.end - i.start) (drop i.start i.buffer.items)) ≡ i.end - i.start =
+    length-take-le (i.end - i.start) (drop i.start i.buffer.items)
+    (omega (arith, length-drop i.start i.buffer.items)) in
+    reads_more _ _ i.buffer.items c.copy_within.new.self.items c.read_at.new.buffer.items i.start i.end
+    c.in_ok-count.count i.given c.args.self.now i.ended
+    c.self.view_is c.self.invariant.0 fits c.copy_within.ensures.items read.front
+    (omega (arith, c.read_at.new.buffer.ok.0, read.len, read.bound)) read.bytes
     (λ z. read.end z (omega (arith, c.requires)))

@@ -16,7 +16,8 @@ returns-in-Ok-Skipped-clause-step g c =
     record { moves = s.0; within = s.1; further = s.2; bounded = c.in-Ok-Skipped.ensures.bound }
 
 pub returns-in-Err-clause-step : goal.returns-in-Err-clause-step
-returns-in-Err-clause-step g c = step_fault _ _ _ c.args.self.now c.take_line.new.self c.in-Err.fault c.in-Err.ensures.taking
+returns-in-Err-clause-step g c =
+    step_fault _ _ _ c.args.self.now c.take_line.new.self c.in-Err.fault c.in-Err.ensures.taking
 
 pub returns-then-has_ended-clause-step : goal.returns-then-has_ended-clause-step
 returns-then-has_ended-clause-step g c =
@@ -31,12 +32,14 @@ read_more-requires g c =
 pub returns-in-Err-read_more-clause-step : goal.returns-in-Err-read_more-clause-step
 returns-in-Err-read_more-clause-step g c =
     let taking = rw c.in-Ok-Nothing.field-0-is at c.in-Ok-Nothing.ensures.taking in
-    source_fault _ _ _ _ c.args.self.now c.take_line.new.self c.read_more.new.self taking.0 taking.1 (sym c.if-has_ended.ensures) c.in-Err-read_more.ensures.read
+    source_fault _ _ _ _ c.args.self.now c.take_line.new.self c.read_more.new.self taking.0 taking.1
+    (sym c.if-has_ended.ensures) c.in-Err-read_more.ensures.read
 
 pub returns-in-Ok-clause-step : goal.returns-in-Ok-clause-step
 returns-in-Ok-clause-step g c =
     let taking = rw c.in-Ok-Nothing.field-0-is at c.in-Ok-Nothing.ensures.taking in
-    step_further (g.S.Source.left c.args.source.now) (g.S.Source.left c.read_more.new.source) c.args.self.now c.take_line.new.self c.read_more.new.self
+    step_further (g.S.Source.left c.args.source.now) (g.S.Source.left c.read_more.new.source) c.args.self.now
+    c.take_line.new.self c.read_more.new.self
     taking.0 c.requires (sym c.if-has_ended.ensures) c.in-Ok.ensures.read c.in-Ok.ensures.bound
 
 pub returns-in-Ok-Said-clause-prompt : goal.returns-in-Ok-Said-clause-prompt

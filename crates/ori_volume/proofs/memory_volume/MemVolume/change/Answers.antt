@@ -63,20 +63,27 @@ returns-in-Err-clause-answers c =
         passes = record {
           in_time = omega (arith, told old);
           past = ap past_in disk ∙ c.step.ensures.past;
-          change = no_change_here c.args.file _ _ (ap (λ (d : MemDisk). disk_of (states_of d)) disk ∙ ap disk_of c.in-Err.ensures.err);
+          change = no_change_here c.args.file _ _ (ap (λ (d : MemDisk). disk_of (states_of d)) disk
+              ∙ ap disk_of c.in-Err.ensures.err);
         };
         wants = omega (arith, c.count_fault-in-Err.ensures.wants, c.saturating_add-self.ensures);
       })),
     )
 
 pub returns-then-self-clause-time : goal.returns-then-self-clause-time
-returns-then-self-clause-time c = time_passes c.args.file c.args.planned (effect c.args.change) (effect c.args.change) _ _ _ (omega (arith, told c.args.self.now.disk)) (returns-then-self-clause-answers c)
+returns-then-self-clause-time c =
+    time_passes c.args.file c.args.planned (effect c.args.change) (effect c.args.change) _ _ _
+    (omega (arith, told c.args.self.now.disk)) (returns-then-self-clause-answers c)
 
 pub returns-in-Ok-clause-time : goal.returns-in-Ok-clause-time
-returns-in-Ok-clause-time c = time_passes c.args.file c.args.planned (effect c.args.change) (effect c.args.change) _ _ _ (omega (arith, told c.args.self.now.disk)) (returns-in-Ok-clause-answers c)
+returns-in-Ok-clause-time c = time_passes c.args.file c.args.planned (effect c.args.change) (effect c.args.change) _ _ _
+    (omega (arith, told c.args.self.now.disk)) (returns-in-Ok-clause-answers c)
 
 pub returns-in-Ok-2-clause-time : goal.returns-in-Ok-2-clause-time
-returns-in-Ok-2-clause-time c = time_passes c.args.file c.args.planned (effect c.args.change) (effect c.args.change) _ _ _ (omega (arith, told c.args.self.now.disk)) (returns-in-Ok-2-clause-answers c)
+returns-in-Ok-2-clause-time c =
+    time_passes c.args.file c.args.planned (effect c.args.change) (effect c.args.change) _ _ _
+    (omega (arith, told c.args.self.now.disk)) (returns-in-Ok-2-clause-answers c)
 
 pub returns-in-Err-clause-time : goal.returns-in-Err-clause-time
-returns-in-Err-clause-time c = time_passes c.args.file c.args.planned (effect c.args.change) (effect c.args.change) _ _ _ (omega (arith, told c.args.self.now.disk)) (returns-in-Err-clause-answers c)
+returns-in-Err-clause-time c = time_passes c.args.file c.args.planned (effect c.args.change) (effect c.args.change) _ _
+    _ (omega (arith, told c.args.self.now.disk)) (returns-in-Err-clause-answers c)

@@ -13,12 +13,20 @@ returns-in-Master-clause-picked c =
     record {
       picked = picked;
       is_picked = c.in_ok-master.ensures.picked;
-      is_changed = changed_at Master c.args.file picked _ c.args.at c.args.byte c.in-Master.is (λ i. record { master = c.with_byte.ensures i; log_a = picked.log_a; log_b = picked.log_b; pages = picked.pages });
+      is_changed = changed_at Master c.args.file picked _ c.args.at c.args.byte c.in-Master.is
+          (λ i. record {
+            master = c.with_byte.ensures i;
+            log_a = picked.log_a;
+            log_b = picked.log_b;
+            pages =
+                picked.pages;
+          });
     }
 
 pub returns-in-Master-clause-allowed : goal.returns-in-Master-clause-allowed
 returns-in-Master-clause-allowed c =
-    crash_with_allowed c.args.pick c.args.file c.args.at c.args.byte (volume_data c.args.self.now).story.now.disk _ (sound c.args.self.now) c.requires.loose
+    crash_with_allowed c.args.pick c.args.file c.args.at c.args.byte (volume_data c.args.self.now).story.now.disk _
+    (sound c.args.self.now) c.requires.loose
     (omega (arith, c.ranges.byte.fits)) (returns-in-Master-clause-picked c)
 
 pub returns-in-LogA-clause-picked : goal.returns-in-LogA-clause-picked
@@ -27,12 +35,20 @@ returns-in-LogA-clause-picked c =
     record {
       picked = picked;
       is_picked = c.in_ok-master.ensures.picked;
-      is_changed = changed_at LogA c.args.file picked _ c.args.at c.args.byte c.in-LogA.is (λ i. record { master = picked.master; log_a = c.with_byte-in-LogA.ensures i; log_b = picked.log_b; pages = picked.pages });
+      is_changed = changed_at LogA c.args.file picked _ c.args.at c.args.byte c.in-LogA.is
+          (λ i. record {
+            master = picked.master;
+            log_a = c.with_byte-in-LogA.ensures i;
+            log_b = picked.log_b;
+            pages =
+                picked.pages;
+          });
     }
 
 pub returns-in-LogA-clause-allowed : goal.returns-in-LogA-clause-allowed
 returns-in-LogA-clause-allowed c =
-    crash_with_allowed c.args.pick c.args.file c.args.at c.args.byte (volume_data c.args.self.now).story.now.disk _ (sound c.args.self.now) c.requires.loose
+    crash_with_allowed c.args.pick c.args.file c.args.at c.args.byte (volume_data c.args.self.now).story.now.disk _
+    (sound c.args.self.now) c.requires.loose
     (omega (arith, c.ranges.byte.fits)) (returns-in-LogA-clause-picked c)
 
 pub returns-in-LogB-clause-picked : goal.returns-in-LogB-clause-picked
@@ -41,12 +57,20 @@ returns-in-LogB-clause-picked c =
     record {
       picked = picked;
       is_picked = c.in_ok-master.ensures.picked;
-      is_changed = changed_at LogB c.args.file picked _ c.args.at c.args.byte c.in-LogB.is (λ i. record { master = picked.master; log_a = picked.log_a; log_b = c.with_byte-in-LogB.ensures i; pages = picked.pages });
+      is_changed = changed_at LogB c.args.file picked _ c.args.at c.args.byte c.in-LogB.is
+          (λ i. record {
+            master = picked.master;
+            log_a = picked.log_a;
+            log_b = c.with_byte-in-LogB.ensures i;
+            pages =
+                picked.pages;
+          });
     }
 
 pub returns-in-LogB-clause-allowed : goal.returns-in-LogB-clause-allowed
 returns-in-LogB-clause-allowed c =
-    crash_with_allowed c.args.pick c.args.file c.args.at c.args.byte (volume_data c.args.self.now).story.now.disk _ (sound c.args.self.now) c.requires.loose
+    crash_with_allowed c.args.pick c.args.file c.args.at c.args.byte (volume_data c.args.self.now).story.now.disk _
+    (sound c.args.self.now) c.requires.loose
     (omega (arith, c.ranges.byte.fits)) (returns-in-LogB-clause-picked c)
 
 pub returns-in-Pages-clause-picked : goal.returns-in-Pages-clause-picked
@@ -55,10 +79,18 @@ returns-in-Pages-clause-picked c =
     record {
       picked = picked;
       is_picked = c.in_ok-master.ensures.picked;
-      is_changed = changed_at Pages c.args.file picked _ c.args.at c.args.byte c.in-Pages.is (λ i. record { master = picked.master; log_a = picked.log_a; log_b = picked.log_b; pages = c.with_byte-in-Pages.ensures i });
+      is_changed = changed_at Pages c.args.file picked _ c.args.at c.args.byte c.in-Pages.is
+          (λ i. record {
+            master = picked.master;
+            log_a = picked.log_a;
+            log_b = picked.log_b;
+            pages =
+                c.with_byte-in-Pages.ensures i;
+          });
     }
 
 pub returns-in-Pages-clause-allowed : goal.returns-in-Pages-clause-allowed
 returns-in-Pages-clause-allowed c =
-    crash_with_allowed c.args.pick c.args.file c.args.at c.args.byte (volume_data c.args.self.now).story.now.disk _ (sound c.args.self.now) c.requires.loose
+    crash_with_allowed c.args.pick c.args.file c.args.at c.args.byte (volume_data c.args.self.now).story.now.disk _
+    (sound c.args.self.now) c.requires.loose
     (omega (arith, c.ranges.byte.fits)) (returns-in-Pages-clause-picked c)

@@ -1,0 +1,7 @@
+mod Answering
+mod Applied
+mod Decisions
+mod Entries
+mod InPlace
+pub mod Ordered
+mod Walks

@@ -1,0 +1,5 @@
+pub mod Deciding
+pub mod Leaving
+pub mod Renaming
+pub mod Steps
+pub mod Told

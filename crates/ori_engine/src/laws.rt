@@ -1,0 +1,7 @@
+// What the definitions mean, as contracts of functions that do nothing.
+ghost use Rattle.ori_engine.specs.Openings.{OpensToOne};
+
+/// Files open to at most one base.
+pub fn one_base_law()
+    ensures { OpensToOne }
+{}

@@ -1,8 +1,0 @@
-use Rattle.std.proofs.Common.{◌≡◌, map, drop}
-use Rattle.ori_spec.specs.Refusing as refusing
-use Rattle.ori_value.specs.View.{fields_of}
-use Rattle.ori_model.specs.Data.{change_of}
-use Rattle.ori_plain.proofs.dangling.dangling_field.Given as goal
-
-abbrev pub invariant-loop-name : goal.invariant-loop-name
-invariant-loop-name l = refusing.dangling_field (map change_of l.changes) (fields_of l.pairs) ≡ refusing.dangling_field (map change_of l.changes) (fields_of (drop l.name-index l.pairs))

@@ -1,8 +1,0 @@
-use Rattle.std.proofs.Common.{◌≡◌, ◌++◌, map, take}
-use Rattle.std.specs.Prelude.{flat_map}
-use Rattle.ori_spec.specs.Views.{shown_of}
-use Rattle.ori_model.specs.Data.{record_of, change_of}
-use Rattle.ori_plain.proofs.laying.add_shown.Given as goal
-
-abbrev pub invariant-loop-record : goal.invariant-loop-record
-invariant-loop-record l = map record_of l.records ≡ map record_of l.fn.records ++ flat_map (shown_of (map change_of l.changes)) (map record_of (take l.record-index l.stored))

@@ -1,4 +1,0 @@
-use Rattle.ori_plain.proofs.refusing.refusal.Goals as goal
-
-pub returns-in-Commit : goal.returns-in-Commit
-returns-in-Commit c = rw c.in-Commit.is c.tx_refusal.ensures

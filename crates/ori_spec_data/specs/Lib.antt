@@ -1,0 +1,16 @@
+pub mod Value
+pub mod Fields
+pub mod FieldLaws
+pub mod Base
+pub mod Apply
+pub mod Sizes
+pub mod Weighing
+pub mod Refusing
+pub mod Views
+pub mod Soundness
+pub mod Histories
+pub mod Keeping
+pub mod Staging
+pub mod Records
+pub mod Replies
+pub mod Numbers

@@ -1,0 +1,2 @@
+mod WorkedRuns
+pub mod Legal

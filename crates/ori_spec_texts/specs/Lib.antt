@@ -1,0 +1,4 @@
+pub mod Json
+pub mod Statement
+pub mod Line
+pub mod Reply

@@ -1,0 +1,13 @@
+// Tests by subject.
+mod copies;
+mod crashes;
+mod decisions;
+mod faults;
+mod fronts;
+mod numbers;
+mod records;
+mod runs;
+mod texts;
+mod transactions;
+mod values;
+mod volumes;

@@ -1,0 +1,118 @@
+// Replies with the fronts at which they were read and decided.
+use super::runs::{OPENING_CALLS, numbers};
+use ori_bytes::{NoMemory, Text};
+use ori_engine::Engine;
+use ori_session::Session;
+use ori_text::reply_text;
+use ori_volume::MemVolume;
+use std::alloc::Global;
+use std::test::Fail;
+
+// Two sessions over one database.
+#[derive(Drop)]
+struct Desk {
+    one: Session,
+    two: Session,
+    engine: Engine<MemVolume>,
+}
+
+fn new_desk(alloc: Global, volume: MemVolume) -> Option<Desk> {
+    let Ok(engine) = Engine::start(alloc, volume) else {
+        return None;
+    };
+    Some(Desk {
+        one: Session::new(1),
+        two: Session::new(2),
+        engine,
+    })
+}
+
+fn said(alloc: Global, desk: &mut Desk, by: u8, text: &str) -> Result<Text, NoMemory> {
+    let reply = if by == 1 {
+        desk.one.exec(alloc, &mut desk.engine, text)
+    } else {
+        desk.two.exec(alloc, &mut desk.engine, text)
+    };
+    reply_text(alloc, by, &reply, true)
+}
+
+// The first statement that is answered otherwise.
+fn first_wrong(
+    alloc: Global,
+    volume: MemVolume,
+    lines: &[(u8, &'static str, &'static str)],
+) -> Result<Option<&'static str>, NoMemory> {
+    let Some(mut desk) = new_desk(alloc, volume) else {
+        return Ok(Some("the opening"));
+    };
+    for (by, text, reply) in lines {
+        if said(alloc, &mut desk, *by, text)?.as_str() != *reply {
+            return Ok(Some(*text));
+        }
+    }
+    Ok(None)
+}
+
+// What is decided carries the front that it met, and where it was accepted one more, its own; a COMMIT carries that one alone.
+#[test]
+fn commits_carry_their_fronts(rt: HostRuntime) -> Result<(), Fail> {
+    let alloc = rt.alloc();
+    let lines = [
+        (
+            1,
+            "INSERT INTO V SET n = 0",
+            "1 ROW {\"@class\":\"V\",\"@rid\":\"#1:0\",\"@version\":1,\"n\":0}\n1 OK 1 @0 @1\n",
+        ),
+        (1, "BEGIN", "1 OK 0 @1\n"),
+        (2, "BEGIN", "2 OK 0 @1\n"),
+        (1, "UPDATE #1:0 SET n = 1", "1 OK 1 @1\n"),
+        (2, "UPDATE #1:0 SET n = 2", "2 OK 1 @1\n"),
+        (1, "COMMIT", "1 OK 1 @2\n"),
+        (2, "COMMIT", "2 ERR Conflict #1:0 expected 1 found 2 @2\n"),
+        (
+            1,
+            "INSERT INTO V SET a = #-1:-9",
+            "1 ERR Schema #-1:-2 a Temporary @2 @2\n",
+        ),
+    ];
+    assert_eq!(rt; first_wrong(alloc, MemVolume::empty(alloc), &lines)?, None);
+    Ok(())
+}
+
+#[test]
+fn other_answers_carry_one_front(rt: HostRuntime) -> Result<(), Fail> {
+    let alloc = rt.alloc();
+    let lines = [
+        (1, "DELETE VERTEX #1:0", "1 OK 0 @0\n"),
+        (1, "COMMIT", "1 ERR NoTransaction @0\n"),
+        (1, "BEGIN", "1 OK 0 @0\n"),
+        (1, "COMMIT", "1 OK 0 @0\n"),
+        (1, "SELECT", "1 ERR Unbuilt @0\n"),
+    ];
+    assert_eq!(rt; first_wrong(alloc, MemVolume::empty(alloc), &lines)?, None);
+    Ok(())
+}
+
+#[test]
+fn failed_commits_carry_their_fronts(rt: HostRuntime) -> Result<(), Fail> {
+    let alloc = rt.alloc();
+    let mut volume = MemVolume::empty(alloc);
+    volume.fail(numbers(alloc, &[OPENING_CALLS])?);
+    let lines = [
+        (1, "INSERT INTO V SET n = 0", "1 ERR Fault @0 @0\n"),
+        (1, "INSERT INTO V SET n = 0", "1 ERR Halted 1 @0 @0\n"),
+    ];
+    assert_eq!(rt; first_wrong(alloc, volume, &lines)?, None);
+    Ok(())
+}
+
+#[test]
+fn a_session_lets_its_transaction_go(rt: HostRuntime) -> Result<(), Fail> {
+    let alloc = rt.alloc();
+    let mut desk = new_desk(alloc, MemVolume::empty(alloc)).ok_or("no engine")?;
+    said(alloc, &mut desk, 1, "BEGIN")?;
+    assert!(rt; desk.one.in_transaction() && !desk.two.in_transaction());
+    desk.one.rollback();
+    assert!(rt; !desk.one.in_transaction());
+    Ok(())
+}

@@ -1,0 +1,67 @@
+// Runs of scripts over a volume in memory.
+use ori_bytes::{Blob, NoMemory, NumberList};
+use ori_model::Outcome;
+use ori_script::run_script;
+use ori_volume::{MemSink, MemSource, MemVolume, Source};
+use std::alloc::Global;
+
+// What a run came to.
+#[derive(Drop)]
+pub struct RunResult {
+    pub status: u8,
+    pub printed: Blob,
+    pub entries: u64,
+    pub marks: usize,
+    pub in_doubt: bool,
+    // Whether the source has bytes left.
+    pub is_left: bool,
+}
+
+pub const INSERT: &[u8] = b"1 INSERT INTO V SET name = 'Ann'\n";
+
+// The device calls of an opening of an empty volume, and of one commit: the record, its sync, the gate, its sync.
+pub const OPENING_CALLS: u64 = 15;
+
+pub const COMMIT_CALLS: u64 = 4;
+
+pub fn numbers(alloc: Global, items: &[u64]) -> Result<NumberList, NoMemory> {
+    Ok(NumberList::from_vec(Vec::from_slice(alloc, items)?))
+}
+
+// Runs a script over a volume, with these calls of the source and the sink failing.
+pub fn run(
+    alloc: Global,
+    volume: MemVolume,
+    input: &[u8],
+    fail_source: &[u64],
+    fail_sink: &[u64],
+) -> Result<(RunResult, MemVolume), NoMemory> {
+    let mut source = MemSource::of(
+        Blob::from_slice(alloc, input)?,
+        numbers(alloc, fail_source)?,
+    );
+    let mut sink = MemSink::empty(alloc, numbers(alloc, fail_sink)?);
+    let Outcome {
+        status,
+        volume,
+        report,
+    } = run_script(alloc, volume, &mut source, &mut sink);
+    let result = RunResult {
+        status,
+        printed: sink.taken().copy()?,
+        entries: report.history.as_slice().len() as u64,
+        marks: report.marks.as_slice().len(),
+        in_doubt: report.doubt.is_some(),
+        is_left: source.read(&mut [0]).unwrap_or(0) > 0,
+    };
+    Ok((result, volume))
+}
+
+// Runs a script over a volume without a fault of the streams.
+pub fn over(
+    alloc: Global,
+    volume: MemVolume,
+    input: &[u8],
+) -> Result<(RunResult, MemVolume), NoMemory> {
+    run(alloc, volume, input, &[], &[])
+}
