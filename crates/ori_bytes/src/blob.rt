@@ -71,7 +71,7 @@ impl Blob {
         self.bytes.len() == 0
     }
 
-    /// Adds a byte at the end. Unchanged where memory is wanting.
+    /// Adds a byte at the end. Unchanged if out of memory.
     pub fn push(&mut self, byte: u8) -> Result<(), NoMemory>
         ensures ok { OnOk result (self.new ≡ self.old ++ byte ∷ []) }
         ensures err { OnErr result (self.new ≡ self.old) }
@@ -80,7 +80,7 @@ impl Blob {
         Ok(())
     }
 
-    /// Adds bytes at the end. Unchanged where memory is wanting.
+    /// Adds bytes at the end. Unchanged if out of memory.
     pub fn extend_from_slice(&mut self, more: &[u8]) -> Result<(), NoMemory>
         ensures ok { OnOk result (self.new ≡ self.old ++ more.now) }
         ensures err { OnErr result (self.new ≡ self.old) }

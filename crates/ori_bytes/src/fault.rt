@@ -4,8 +4,8 @@ use thiserror::Error;
 /// A fault of bytes that are read. `at` is the place, counted from the first byte of all, at which the read began.
 #[derive(Clone, Copy, Debug, PartialEq, Eq, Error)]
 pub enum ByteFault {
-    /// Bytes are wanting.
-    #[error("bytes are wanting at {at}")]
+    /// The bytes end too early.
+    #[error("the bytes end too early at {at}")]
     Short { at: usize },
     /// A varint isn't in its shortest form: of several groups the last is 0.
     #[error("a varint isn't in its shortest form at {at}")]

@@ -6,6 +6,7 @@
 //! name ends in `List` is a `ListOf` under a name of its own, if it doesn't order itself.
 #![tactic(auto)]
 
+mod bag;
 mod blob;
 mod causes;
 mod cursor;
@@ -17,6 +18,7 @@ mod rid;
 mod text;
 mod varint;
 
+pub use bag::Bag;
 pub use blob::Blob;
 pub use causes::Causes;
 pub use cursor::Cursor;

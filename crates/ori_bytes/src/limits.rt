@@ -84,6 +84,36 @@ pub const HEAD_KIND: u8 = 1;
 /// The kind of a page with records.
 pub const SLOTS_KIND: u8 = 5;
 
+/// The length of a log file grows to a multiple of this many bytes, so that few commits change it.
+pub const LOG_STEP_BYTES: u64 = 1 << 18;
+
+/// A commit that finds this many bytes in the tail of the log makes a checkpoint first.
+pub const CHECKPOINT_BYTES: u64 = 1 << 24;
+
+/// How many clean pages a partition of the cache keeps.
+pub const CLEAN_PAGES: usize = 512;
+
+/// The kind of a free page.
+pub const FREE_KIND: u8 = 0;
+
+/// The owner of free pages.
+pub const FREE_OWNER: u32 = 3;
+
+/// The kind of the directory page of a cluster's position map.
+pub const DIRECTORY_KIND: u8 = 3;
+
+/// The kind of a page with entries of a position map.
+pub const MAP_KIND: u8 = 4;
+
+/// How many entries a map page has.
+pub const MAP_ENTRIES: usize = 250;
+
+/// How many map pages a directory page names.
+pub const MAX_MAP_PAGES: usize = 1000;
+
+/// The number of the form of the pages that a head names.
+pub const PAGE_FORMAT: u32 = 1;
+
 /// The number of the form of the pages.
 pub const STAGE_FORMAT: u32 = 0;
 

@@ -62,7 +62,7 @@ impl Text {
         self.text.len() == 0
     }
 
-    /// Adds a text at its end. Unchanged where memory is wanting.
+    /// Adds a text at its end. Unchanged if out of memory.
     pub fn push_str(&mut self, more: &str) -> Result<(), NoMemory>
         ensures ok { OnOk result (self.new ≡ self.old ++ more.now) }
         ensures err { OnErr result (self.new ≡ self.old) }

@@ -103,7 +103,7 @@ fn write_groups(groups: &mut [u8; MAX_GROUPS], number: u64) -> usize
     len + 1
 }
 
-/// Adds a number's spelling at the end, as `Cursor::take_varint` reads it. Unchanged where memory is wanting.
+/// Adds a number's spelling at the end, as `Cursor::take_varint` reads it. Unchanged if out of memory.
 pub fn put_varint(out: &mut Blob, number: i64) -> Result<(), NoMemory>
     ensures ok { OnOk result (out.new ≡ out.old ++ varint_bytes number) }
     ensures err { OnErr result (out.new ≡ out.old) }

@@ -11,13 +11,12 @@ use Rattle.ori_decide.specs.Steps.{IsAccepted}
 
 pub head_of : (base : BaseData) (e : EntryData) (es : List EntryData) → IsLegalHistory base (e ∷ es)
     → IsAccepted base e × IsLegalHistory (apply base e) es
-head_of base (commit session tx rids) es h = ((h.0, h.1), h.3)
-head_of base (define session definition) es h = absurd h
+head_of base e es h = ((h.0, h.1), h.3)
 
 pub accepted_sound : (base : BaseData) (e : EntryData) → IsSoundBase base → IsAccepted base e
     → IsSoundBase (apply base e)
 accepted_sound base (commit session tx rids) sound h = apply_sound base tx sound h.0 h.1
-accepted_sound base (define session definition) sound h = absurd h
+accepted_sound base (define session definition) sound h = absurd h.0
 
 at_entry : (xs : List Entry) (i : ℕ) (x : Entry) → i < length xs → x ≡ get_or xs i x
     → entries_of (drop i xs) ≡ entry_of x ∷ entries_of (drop (i + 1) xs)

@@ -1,6 +1,6 @@
 mod Answering
 mod Applied
-mod Decisions
+pub mod Decisions
 mod Entries
 mod InPlace
 pub mod Ordered

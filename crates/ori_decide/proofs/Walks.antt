@@ -10,12 +10,13 @@ use Rattle.ori_bytes.specs.declared.rid.Rid.{Rid}
 use Rattle.ori_spec_data.specs.Base.{ClassData, RecordData, ChangeData, create, update, delete, touch}
 use Rattle.ori_spec_data.specs.Apply.{same_bytes, same_rid, cluster_of, next_of, raised_in, given_in, next_after}
 use Rattle.ori_spec_data.specs.Apply.{fresh_of}
+use Rattle.ori_spec_data.specs.Staging.{laid_over}
 use Rattle.ori_spec_data.specs.Views.{shown_of, created_of}
 use Rattle.ori_model.specs.declared.change.Change.{Change}
 use Rattle.ori_model.specs.declared.record.Stored.{Stored}
 use Rattle.ori_model.specs.declared.schema.Class.{Class}
 use Rattle.ori_model.specs.Data.{natural, class_of, change_of, record_of}
-use Rattle.ori_decide.specs.Steps.{settles, settling, shown_one}
+use Rattle.ori_decide.specs.Steps.{settles, settling, shown_one, listed}
 
 pub shown_is : (cs : List ChangeData) (r : RecordData) → shown_of cs r ≡ shown_one (settling cs r.rid) r
 shown_is [] r = refl
@@ -82,6 +83,12 @@ pub settling_hit : (xs : List Change) (i : ℕ) (x : Change) (rid : Rid) → i <
     → settles (change_of x) rid ≡ true
     → settling (map change_of (drop i xs)) rid ≡ Some (change_of x)
 settling_hit xs i x rid lt is h = rw (drop-cons xs i x, ← is, h) refl
+
+pub created_listed : (c : ChangeData) → listed (laid_over (Some c) None) ≡ created_of (c ∷ [])
+created_listed (create temp class fields) = refl
+created_listed (update a b e) = refl
+created_listed (delete a b) = refl
+created_listed (touch a b) = refl
 
 pub created_step : (xs : List Change) (i : ℕ) (x : Change) (first old new more : List RecordData) → i < length xs
     → x ≡ get_or xs i x → old ≡ first ++ created_of (map change_of (take i xs))

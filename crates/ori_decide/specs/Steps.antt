@@ -2,9 +2,10 @@
 use Rattle.std.specs.Prelude.{◌≡◌, Bool, false, List, [], ◌∷◌, Option, Some, None, if◌then◌else◌}
 use Rattle.ori_bytes.specs.declared.rid.Rid.{Rid}
 use Rattle.ori_spec_data.specs.Base.{RecordData, BaseData, ChangeData, create, update, delete, touch}
-use Rattle.ori_spec_data.specs.Base.{EntryData, commit, define}
-use Rattle.ori_spec_data.specs.Refusing.{CommitRefusalData, refusal}
-use Rattle.ori_spec_data.specs.Apply.{same_rid, relinked_fields, put_record, IsFormed}
+use Rattle.ori_spec_data.specs.Base.{EntryData, asked_in}
+use Rattle.ori_spec_data.specs.Refusing.{CommitRefusalData}
+use Rattle.ori_spec_data.specs.Apply.{same_rid, relinked_fields, put_record}
+use Rattle.ori_spec_data.specs.Asked.{IsAskable, refusal_of}
 use Rattle.ori_model.specs.declared.fault.CommitFault.{CommitFault}
 use Rattle.ori_model.specs.declared.fault.CommitFault.TheVariants.{Conflict, Schema, RecordTooLarge, ClusterFull}
 use Rattle.ori_model.specs.declared.fault.CommitFault.TheVariants.{TxTooLarge}
@@ -72,22 +73,19 @@ with_one (Some r) rs = put_record r rs
 
 -- ---- entries
 
--- a formed transaction that the base doesn't refuse. Nothing changes a schema yet.
+-- what it was made of can be asked, and the base doesn't refuse it
 abbrev pub IsAccepted : BaseData → EntryData → Type 0
-IsAccepted base (commit session tx rids) = IsFormed tx × (refusal base tx ≡ None)
-IsAccepted base (define session definition) = ⊥
+IsAccepted base e = IsAskable (asked_in e) × (refusal_of base (asked_in e) ≡ None)
 
 -- ---- refusals
 
--- a commit of a formed transaction. Nothing changes a schema yet.
+-- what it was made of can be asked
 abbrev pub IsFormedCommit : EntryData → Type 0
-IsFormedCommit (commit session tx rids) = IsFormed tx
-IsFormedCommit (define session definition) = ⊥
+IsFormedCommit e = IsAskable (asked_in e)
 
 -- why a base refuses an entry
 abbrev pub refusal_by : BaseData → EntryData → Option CommitRefusalData
-refusal_by base (commit session tx rids) = refusal base tx
-refusal_by base (define session definition) = None
+refusal_by base e = refusal_of base (asked_in e)
 
 -- the refusal of a statement that tells why a base refuses its commit
 abbrev pub refusal_told : CommitFault → Option Refusal

@@ -1,5 +1,5 @@
 // A base as a transaction shows it.
-ghost use Rattle.std.specs.Prelude.{◌≡◌, ◌++◌, ◌∷◌, [], map, flat_map, option_map, IfOk, OnOk, Some};
+ghost use Rattle.std.specs.Prelude.{◌≡◌, ◌++◌, map, flat_map, option_map, IfOk, OnOk, Some};
 ghost use Rattle.ori_spec_data.specs.Views.{shown_of, created_of, overlaid};
 ghost use Rattle.ori_spec_data.specs.Views as views;
 ghost use Rattle.ori_model.specs.Data.{record_of, change_of, tx_of, base_of};
@@ -42,27 +42,6 @@ fn shown_by(stored: &Stored, change: &Change) -> Result<Option<Stored>, NoMemory
     }
 }
 
-// A new record, where the change makes one.
-fn created(change: &Change) -> Result<Option<Stored>, NoMemory>
-    ensures { IfOk result (λ o. listed (option_map record_of o) ≡ created_of (change_of change.now ∷ [])) }
-{
-    match change {
-        Change::Create {
-            temp,
-            class,
-            fields,
-        } => Ok(Some(Stored {
-            rid: *temp,
-            version: 0,
-            class: class.copy()?,
-            fields: fields.copy()?,
-        })),
-        Change::Update { .. } => Ok(None),
-        Change::Delete { .. } => Ok(None),
-        Change::Touch { .. } => Ok(None),
-    }
-}
-
 // A record more, where there is one.
 fn add(records: &mut StoredList, found: Option<Stored>) -> Result<(), NoMemory>
     ensures { OnOk result (map record_of records.new ≡ map record_of records.old
@@ -96,7 +75,7 @@ fn add_created(records: &mut StoredList, changes: &[Change]) -> Result<(), NoMem
         ++ created_of (map change_of changes.now)) }
 {
     for change in changes {
-        let found = created(change)?;
+        let found = change.created()?;
         add(records, found)?;
     }
     Ok(())

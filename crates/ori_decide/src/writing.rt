@@ -94,18 +94,6 @@ pub fn made(
     })
 }
 
-// The identifier that a change names.
-fn target(change: &Change) -> Rid
-    ensures { result ≡ spec.target (change_of change.now) }
-{
-    match change {
-        Change::Create { temp, .. } => *temp,
-        Change::Update { rid, .. } => *rid,
-        Change::Delete { rid, .. } => *rid,
-        Change::Touch { rid, .. } => *rid,
-    }
-}
-
 // The record that a change finds.
 fn found<'a, R: Records>(records: &'a R, change: &Change) -> Option<&'a Stored>
     ensures { option_map (λ s. record_of s.now) result ≡ weighing.found_by (R.stored records.now)
@@ -218,11 +206,11 @@ fn write_one<R: Records>(
     let size = size_of(left.as_ref())?;
     if size > MAX_RECORD_BYTES {
         return Err(CommitFault::RecordTooLarge {
-            rid: target(change),
+            rid: change.target(),
             bytes: size,
         });
     }
-    let rid = pairs.real(target(change));
+    let rid = pairs.real(change.target());
     let weight = weigh(size_of(old)?, size);
     Ok((Written { rid, left }, weight))
 }

@@ -6,13 +6,13 @@ use Rattle.ori_log.specs.declared.fault.LogFault.{LogFault}
 use Rattle.ori_log.specs.declared.fault.LogFault.TheVariants as faults
 use Rattle.std.proofs.lemmas.Bool.{cases_lt}
 use Rattle.ori_spec_data.specs.Base.{RecordData, TxData}
-use Rattle.ori_spec_data.specs.Base.{EntryData, commit}
+use Rattle.ori_spec_data.specs.Base.{EntryData, commit, AskedData, asks_commit}
 use Rattle.ori_spec_data.specs.Apply.{fresh}
 use Rattle.ori_spec_data.specs.Weighing.{entry_bytes, feed_bytes, log_need}
 use Rattle.ori_spec_data.specs.Refusing.{refusal}
 use Rattle.ori_spec_data.proofs.Kept.{fresh_count}
 use Rattle.ori_spec_data.specs.Keeping.{OpeningData, DecisionData, refused, accepted, fault, no_memory, IsAsked}
-use Rattle.ori_spec_data.specs.Keeping.{IsAllowed, IsGranted, AreFresh, DecidesCommit}
+use Rattle.ori_spec_data.specs.Keeping.{IsAllowed, IsGranted, AreFresh, Decides}
 use Rattle.ori_model.specs.declared.entry.Entry.{Entry}
 use Rattle.ori_model.specs.declared.fault.CommitFault.{CommitFault}
 use Rattle.ori_model.specs.Data.{entry_of, entries_of}
@@ -27,23 +27,24 @@ use Rattle.ori_engine.specs.declared.kept.Kept.{Kept}
 use Rattle.ori_engine.specs.States.{state_of, IsAskedOf, IsPrepared, Refuses, IsInside}
 use Rattle.ori_engine.proofs.Refusals.{may_refuse}
 
-pub asked : (k : Kept) (tx : TxData) (opening : OpeningData) → IsAskedOf k tx → IsAsked (state_of k opening) tx
-asked k tx opening h = record { running = h.going; entries = h.entries; bytes = h.bytes }
+pub asked : (k : Kept) (what : AskedData) (opening : OpeningData) → IsAskedOf k what → IsAsked (state_of k opening) what
+asked k what opening h = record { running = h.going; entries = h.entries; bytes = h.bytes }
 
-pub stage_refuses : (T : Type 0) (k : Kept) (session : ℕ) (tx : TxData) (result : Result T CommitFault) → IsAskedOf k tx
-    → Answers {T = T} (refusal (base_with (rows_of k.table.0)) tx) result → IfErr result (Refuses k session tx)
+pub stage_refuses : (T : Type 0) (k : Kept) (session : ℕ) (tx : TxData) (result : Result T CommitFault)
+    → IsAskedOf k (asks_commit tx) → Answers {T = T} (refusal (base_with (rows_of k.table.0)) tx) result
+    → IfErr result (Refuses k session (asks_commit tx))
 stage_refuses T k session tx (Ok x) h answers = tt
 stage_refuses T k session tx (Err why) h (inl none) = record {
   decides = λ opening.
-      subst (λ (d : DecisionData). DecidesCommit (state_of k opening) session tx d (state_of k opening))
+      subst (λ (d : DecisionData). Decides (state_of k opening) session (asks_commit tx) d (state_of k opening))
       (sym none) refl;
   no_fault = λ is. let both : no_memory ≡ fault = sym none ∙ is in absurd (cc both);
   inside = subst IsInside (sym none) tt;
 }
 stage_refuses T k session tx (Err why) h (inr (w, e, t)) = record {
   decides = λ opening.
-      subst (λ (d : DecisionData). DecidesCommit (state_of k opening) session tx d (state_of k opening)) (sym t)
-      (asked k tx opening h, e, may_refuse (base_with (rows_of k.table.0)) tx w e, refl);
+      subst (λ (d : DecisionData). Decides (state_of k opening) session (asks_commit tx) d (state_of k opening)) (sym t)
+      (asked k (asks_commit tx) opening h, e, may_refuse (base_with (rows_of k.table.0)) tx w e, refl);
   no_fault = λ is. let both : refused w ≡ fault = sym t ∙ is in absurd (cc both);
   inside = subst IsInside (sym t) tt;
 }
@@ -60,7 +61,7 @@ entries_more (y ∷ xs) x = ap (λ (l : List EntryData). entry_of y ∷ l) (entr
 
 -- these are the identifiers of the new records, one for each
 pub are_fresh : (k : Kept) (tx : TxData) (rids : List Rid) (opening : OpeningData)
-    → rids ≡ fresh (base_with (rows_of k.table.0)) tx → AreFresh (state_of k opening) tx rids
+    → rids ≡ fresh (base_with (rows_of k.table.0)) tx → AreFresh (state_of k opening) (asks_commit tx) rids
 are_fresh k tx rids opening h = (
   ap length h ∙ fresh_count (base_with (rows_of k.table.0)).schema.classes (base_with
       (rows_of k.table.0)).next tx.changes,
@@ -68,9 +69,9 @@ are_fresh k tx rids opening h = (
 )
 
 pub allowed : (k : Kept) (session : ℕ) (tx : TxData) (p : Prepared) (opening : OpeningData) → IsPrepared k session tx p
-    → IsAllowed (state_of k opening) tx
+    → IsAllowed (state_of k opening) (asks_commit tx)
 allowed k session tx p opening h = record {
-  asked = asked k tx opening h.asked;
+  asked_is = asked k (asks_commit tx) opening h.asked;
   allowed = (h.staged).allowed;
   pages = omega (
     arith,
@@ -82,7 +83,7 @@ allowed k session tx p opening h = record {
 }
 
 pub granted : (k : Kept) (session : ℕ) (tx : TxData) (p : Prepared) (opening : OpeningData) → IsPrepared k session tx p
-    → log_need tx ≤ k.room → IsGranted (state_of k opening) tx
+    → log_need tx ≤ k.room → IsGranted (state_of k opening) (asks_commit tx)
 granted k session tx p opening h room = record { allowed = allowed k session tx p opening h; room = room }
 
 -- it was accepted
@@ -92,7 +93,8 @@ pub accepts : (old new : Kept) (session : ℕ) (tx : TxData) (p : Prepared) (ope
     → entries_of new.feed.items ≡ entries_of old.feed.items ++ entry_of p.entry ∷ []
     → length new.feed.items ≡ length old.feed.items + 1
     → new.room ≡ old.room - (log_need tx - 1) → new.halted ≡ old.halted → new.doubt ≡ old.doubt
-    → DecidesCommit (state_of old opening) session tx (accepted (length old.feed.items) p.fresh) (state_of new opening)
+    → Decides (state_of old opening) session (asks_commit tx) (accepted (length old.feed.items) p.fresh)
+    (state_of new opening)
 accepts old new session tx p opening h room rows feed front room_is halted doubt = (
   granted old session tx p opening h room,
   refl,
@@ -127,7 +129,7 @@ not_enough room need none = by (cases_lt room need) where
 abbrev Answer : Type 0
 Answer = Result (Unit {0}) LogFault
 
--- an append that failed, and not for want of room
+-- an append that failed, and not because the log is full
 pub not_full : (why : LogFault) (need room : ℕ) → (room < need → ◌≡◌ {A = Answer} (Err why) (Err
     (faults.LogFull need room))) → (need ≤ room → ◌≡◌ {A = Answer} (Err why) (Err faults.Failed))
     → ((n r : ℕ) → why ≡ faults.LogFull n r → ⊥) → (need ≤ room) × (why ≡ faults.Failed)

@@ -6,7 +6,7 @@ use Rattle.ori_bytes.specs.declared.causes.Causes.{Causes}
 use Rattle.ori_volume.specs.Causes.{Rose}
 use Rattle.ori_volume.specs.Story.{Story, Tells}
 use Rattle.ori_volume.proofs.Known.{tells_map}
-use Rattle.ori_spec_data.specs.Base.{RecordData, BaseData}
+use Rattle.ori_spec_data.specs.Base.{RecordData}
 use Rattle.ori_spec_data.specs.Views.{are_real}
 use Rattle.ori_spec_data.specs.Keeping.{OpeningData, DecisionData, accepted, halted_at, feed_full, refused}
 use Rattle.ori_spec_data.specs.Keeping.{pages_full, log_full, fault, device, busy, damaged, no_memory, counted}
@@ -18,6 +18,7 @@ use Rattle.ori_engine.specs.declared.kept.Kept.{Kept}
 use Rattle.ori_engine.specs.Commits.{KeptData}
 use Rattle.ori_engine.specs.KeeperLaws.{entries_length}
 use Rattle.ori_engine.specs.States.{state_of, IsNewlyKept, StaysSafe, HaltsBy, IsInside}
+use Rattle.ori_spec_data.specs.Limits.{FoundData}
 use Rattle.ori_engine.specs.Openings.{IsStartedKept, IsStarted, IsFresh, IsKeptState, SafeSince, Survives}
 
 pub sound_on : (old new : KeptData) (first : Option Story) (a b : Option Story) → Tells (StaysSafe old new) a b
@@ -36,13 +37,9 @@ survives_so kept first now safe = tells_map _ _ _ _ (λ x y was safe. λ base op
 
 -- ---- the state
 
-pub started_so : (k : Kept) (opening : OpeningData) (base : BaseData) (room : ℕ) → IsStartedKept base room k
-    → IsStarted base room (state_of k opening)
-started_so k opening base room h = record {
-  sound = h.sound;
-  base_is = ap Some h.rows_are;
-  limit_is = ap Some h.room_is;
-}
+pub started_so : (k : Kept) (opening : OpeningData) (found : FoundData) → IsStartedKept found k
+    → IsStarted found (state_of k opening)
+started_so k opening found h = record { sound = h.sound; base_is = ap Some h.rows_are; limit_is = h.limit_is }
 
 pub fresh_so : (k : Kept) (opening : OpeningData) → IsNewlyKept k → IsFresh (state_of k opening)
 fresh_so k opening h = record {
@@ -115,7 +112,29 @@ faulted_on (busy turn) causes opened old new before later rose h some = let r = 
 faulted_on (damaged page) causes opened old new before later rose h some = let r = h some in omega (arith, r, later)
 faulted_on no_memory causes opened old new before later rose h some = let r = h some in omega (arith, r, later)
 
+-- nor while commits go on
+pub faultless_on : (d : DecisionData) (causes : Causes) (old new : Option ℕ) → (d ≡ fault → IsSome new)
+    → (new ≡ None → old ≡ None) → (old ≡ None → causes.fault ≡ 0) → new ≡ None → (counted d causes).fault ≡ 0
+faultless_on fault causes old new ends before h none =
+    let some : IsSome {T = ℕ} None = subst (λ (o : Option ℕ). IsSome o) none (ends refl) in
+    absurd (cc some)
+faultless_on (accepted place rids) causes old new ends before h none = h (before none)
+faultless_on (halted_at at) causes old new ends before h none = h (before none)
+faultless_on (feed_full entries bytes) causes old new ends before h none = h (before none)
+faultless_on (refused why) causes old new ends before h none = h (before none)
+faultless_on (pages_full n heavy) causes old new ends before h none = h (before none)
+faultless_on (log_full need room) causes old new ends before h none = h (before none)
+faultless_on device causes old new ends before h none = h (before none)
+faultless_on (busy turn) causes old new ends before h none = h (before none)
+faultless_on (damaged page) causes old new ends before h none = h (before none)
+faultless_on no_memory causes old new ends before h none = h (before none)
+
 -- ---- the end of commits
+
+pub went_on : (old new : Option ℕ) (faults now log log_now : ℕ) → HaltsBy old new faults now log log_now → new ≡ None
+    → old ≡ None
+went_on old new faults now log log_now (inl (same, log_same)) none = sym same ∙ none
+went_on old new faults now log log_now (inr (was, ended, rose, log_rose)) none = was
 
 pub halts_on : (old new : Option ℕ) (opened faults now log_opened log log_now : ℕ) → faults ≤ now → opened ≤ faults
     → log_opened ≤ log → HaltsBy old new faults now log log_now

@@ -1,6 +1,6 @@
 -- What an opening finds.
 use Rattle.std.proofs.Common.{◌≡◌, inl, inr, ◌⊎◌, ⊎_elim, ℕ, ◌+◌, ◌-◌, ◌<◌, ◌≤◌, List, [], ◌∷◌, length, get_or, Option}
-use Rattle.std.proofs.Common.{None, refl, sym, ◌∙◌, ap, subst, arith}
+use Rattle.std.proofs.Common.{Some, None, refl, sym, ◌∙◌, ap, subst, arith}
 use Rattle.std.specs.List.{AllByRecursion}
 use Rattle.ori_bytes.specs.declared.limits.TheConstants.{MAX_PAGES, MAX_LOG_BYTES}
 use Rattle.ori_volume.specs.declared.file.FileNo.TheVariants.{Master, LogA, LogB, Pages}
@@ -25,6 +25,7 @@ use Rattle.ori_rows.proofs.Places.{at_place}
 use Rattle.ori_table.specs.Kept.{rows_of}
 use Rattle.ori_engine.specs.declared.kept.Kept.{Kept}
 use Rattle.ori_engine.specs.Holding.{Gives, IsHeld}
+use Rattle.ori_spec_data.specs.Limits.{FoundData}
 use Rattle.ori_engine.specs.Openings.{IsFound, IsStartedKept}
 use Rattle.ori_engine.specs.Reading.{AreRowsOf, IsOpened, IsNoTable}
 use Rattle.ori_engine.proofs.RecordForms.{no_items}
@@ -246,17 +247,17 @@ module _ (old new : Files) (records : List (List ImageData)) (log : Log) (images
       (made.1).stands)
       opens.stands
 
-  pub found_started : (k : Kept) (base : BaseData) (room : ℕ) → k.room ≡ room_of log
-      → length (rows_of k.table.0) < MAX_PAGES → IsOpened pages (rows_of k.table.0) → IsFound old base room
-      → IsStartedKept base room k
-  found_started k base room has few opened found =
+  pub found_started : (k : Kept) (found : FoundData) → k.room ≡ room_of log
+      → length (rows_of k.table.0) < MAX_PAGES → IsOpened pages (rows_of k.table.0) → IsFound old found
+      → IsStartedKept found k
+  found_started k start has few opened found =
       let tail : found.records ≡ records = one_tail (files_data old) found.records records found.tail
       (attached_tail old records log images attaches) in
       record {
         sound = found.opens.sound;
-        rows_are = opened_is (rows_of k.table.0) base few found.opens opened;
-        room_is = has ∙ ap (λ (n : ℕ). MAX_LOG_BYTES - n) attaches.place ∙ ap room_behind (sym tail)
-            ∙ sym found.room_is;
+        rows_are = opened_is (rows_of k.table.0) start.base few found.opens opened;
+        limit_is = ap Some (has ∙ ap (λ (n : ℕ). MAX_LOG_BYTES - n) attaches.place ∙ ap room_behind (sym tail))
+            ∙ sym found.limit_is;
       }
 
   pub is_database : (rows : Rows) → IsOpened pages rows → IsDatabase (files_data old)

@@ -7,6 +7,7 @@ use Rattle.ori_bytes.specs.declared.rid.Rid.{Rid}
 use Rattle.ori_bytes.specs.declared.limits.TheConstants.{MAX_RECORD_BYTES, MAX_WEIGHT}
 use Rattle.ori_spec_data.specs.Value.{Fields}
 use Rattle.ori_spec_data.specs.Base.{RecordData, ClassData, BaseData, ChangeData, create, update, delete, touch, TxData}
+use Rattle.ori_spec_data.specs.Base.{asks_commit}
 use Rattle.ori_spec_data.specs.Apply.{target, cluster_without_room}
 use Rattle.ori_spec_data.specs.Weighing.{renamings_on, weight}
 use Rattle.ori_spec_data.specs.Refusing.{CommitRefusalData, conflict, breaks, record_too_large, key_too_long, duplicate}
@@ -16,6 +17,10 @@ use Rattle.ori_spec_data.specs.Refusing.{is_edge_class, temporary_link, version_
 use Rattle.ori_spec_data.specs.Refusing.{dangling_field, end_of, first_refused, too_large_of, full_of, too_heavy}
 use Rattle.ori_spec_data.specs.Refusing.{refusal}
 use Rattle.ori_spec_data.specs.Keeping.{Names, IsInForce, MayRefuse}
+
+-- it may be what refuses a commit of the transaction
+abbrev MayBe : TxData → CommitRefusalData → Type 0
+MayBe tx w = MayRefuse (asks_commit tx) w
 
 -- the first of two, or the second
 which : (a b : Option CommitRefusalData) (w : CommitRefusalData) → or_else a b ≡ Some w → (a ≡ Some w) ⊎ (b ≡ Some w)
@@ -115,7 +120,7 @@ IsOf c (duplicate index one two) = ⊥
 IsOf c (cluster_full cluster) = ⊥
 IsOf c (tx_too_large heavy) = ⊥
 
-of_some : (tx : TxData) (w : CommitRefusalData) → Any (λ c. IsOf c w) tx.changes → MayRefuse tx w
+of_some : (tx : TxData) (w : CommitRefusalData) → Any (λ c. IsOf c w) tx.changes → MayBe tx w
 of_some tx (conflict rid expected found) (k, c, within, is, h) = absurd h
 of_some tx (breaks rid property rule) (k, c, within, is, h) = ((k, c, within, is, h.0), h.1)
 of_some tx (record_too_large rid bytes) (k, c, within, is, h) = ((k, c, within, is, h.0), h.1)
@@ -199,37 +204,37 @@ sizes stored ps (c ∷ cs) w h = by (which (too_large_of stored ps c) (first_ref
       by (inl g) rest = any_first (λ (d : ChangeData). IsOf d w) c cs (large_one c _ w g)
       by (inr g) rest = any_rest (λ (d : ChangeData). IsOf d w) c cs (rest g)
 
-full_free : (tx : TxData) (o : Option ℕ) (w : CommitRefusalData) → full_of o ≡ Some w → MayRefuse tx w
+full_free : (tx : TxData) (o : Option ℕ) (w : CommitRefusalData) → full_of o ≡ Some w → MayBe tx w
 full_free tx None w h = absurd cc
-full_free tx (Some k) w h = let one : cluster_full (pos k) ≡ w = cc in subst (MayRefuse tx) one tt
+full_free tx (Some k) w h = let one : cluster_full (pos k) ≡ w = cc in subst (MayBe tx) one tt
 
-heavy_one : (tx : TxData) (n : ℕ) (w : CommitRefusalData) → too_heavy n ≡ Some w → MayRefuse tx w
+heavy_one : (tx : TxData) (n : ℕ) (w : CommitRefusalData) → too_heavy n ≡ Some w → MayBe tx w
 heavy_one tx n w h = by (ltb MAX_WEIGHT n) refl h where
-  by : (b : Bool) → ltb MAX_WEIGHT n ≡ b → cond b (Some (tx_too_large n)) None ≡ Some w → MayRefuse tx w
-  by true e g = let one : tx_too_large n ≡ w = cc in subst (MayRefuse tx) one (ltb-true MAX_WEIGHT n e)
+  by : (b : Bool) → ltb MAX_WEIGHT n ≡ b → cond b (Some (tx_too_large n)) None ≡ Some w → MayBe tx w
+  by true e g = let one : tx_too_large n ≡ w = cc in subst (MayBe tx) one (ltb-true MAX_WEIGHT n e)
   by false e g = absurd cc
 
-pub may_refuse : (base : BaseData) (tx : TxData) (w : CommitRefusalData) → refusal base tx ≡ Some w → MayRefuse tx w
+pub may_refuse : (base : BaseData) (tx : TxData) (w : CommitRefusalData) → refusal base tx ≡ Some w → MayBe tx w
 may_refuse base tx w h = first (which (first_refused (conflict_of base.stored) tx.changes) _ w h) where
-  last : (full_of (cluster_without_room base tx) ≡ Some w) ⊎ (too_heavy (weight base tx) ≡ Some w) → MayRefuse tx w
+  last : (full_of (cluster_without_room base tx) ≡ Some w) ⊎ (too_heavy (weight base tx) ≡ Some w) → MayBe tx w
   last (inl g) = full_free tx (cluster_without_room base tx) w g
   last (inr g) = heavy_one tx (weight base tx) w g
 
   third : (first_refused (too_large_of base.stored (renamings_on base tx)) tx.changes ≡ Some w) ⊎ (or_else (full_of
-      (cluster_without_room base tx)) (too_heavy (weight base tx)) ≡ Some w) → MayRefuse tx w
+      (cluster_without_room base tx)) (too_heavy (weight base tx)) ≡ Some w) → MayBe tx w
   third (inl g) = of_some tx w (sizes base.stored (renamings_on base tx) tx.changes w g)
   third (inr g) = last (which (full_of (cluster_without_room base tx)) (too_heavy (weight base tx)) w g)
 
   second : (first_refused (broken_by base.schema.classes tx.changes) tx.changes ≡ Some w)
       ⊎ (or_else (first_refused (too_large_of base.stored (renamings_on base tx)) tx.changes) (or_else (full_of
-      (cluster_without_room base tx)) (too_heavy (weight base tx))) ≡ Some w) → MayRefuse tx w
+      (cluster_without_room base tx)) (too_heavy (weight base tx))) ≡ Some w) → MayBe tx w
   second (inl g) = of_some tx w (rules base.schema.classes tx.changes tx.changes w g)
   second (inr g) = third (which (first_refused (too_large_of base.stored (renamings_on base tx)) tx.changes) _ w g)
 
   first : (first_refused (conflict_of base.stored) tx.changes ≡ Some w)
       ⊎ (or_else (first_refused (broken_by base.schema.classes tx.changes) tx.changes)
       (or_else (first_refused (too_large_of base.stored (renamings_on base tx)) tx.changes) (or_else (full_of
-      (cluster_without_room base tx)) (too_heavy (weight base tx)))) ≡ Some w) → MayRefuse tx w
-  first (inl g) = let one = conflicts base.stored tx.changes w g in subst (MayRefuse tx) (sym one.is)
+      (cluster_without_room base tx)) (too_heavy (weight base tx)))) ≡ Some w) → MayBe tx w
+  first (inl g) = let one = conflicts base.stored tx.changes w g in subst (MayBe tx) (sym one.is)
       (one.named, one.other)
   first (inr g) = second (which (first_refused (broken_by base.schema.classes tx.changes) tx.changes) _ w g)

@@ -28,6 +28,7 @@ use Rattle.ori_engine.specs.declared.kept.Kept.{Kept}
 use Rattle.ori_engine.specs.Commits.{KeptData, IsSafe}
 use Rattle.ori_spec_crash.specs.Crash.{LeftAt, CrashSafe, doubts}
 use Rattle.ori_engine.specs.Holding.{IsHeld}
+use Rattle.ori_spec_data.specs.Limits.{FoundData}
 use Rattle.ori_engine.specs.Openings.{IsFound, Finds, Starts}
 use Rattle.ori_engine.specs.Reading.{IsOpened, IsNoTable}
 use Rattle.ori_engine.specs.States.{kept_of, IsNewlyKept}
@@ -159,12 +160,11 @@ pub pages_told : (images : List ImageData) (pages : List (List ℕ)) (told : Opt
 pages_told images pages told files is read = subst (λ (o : Option Files). IfSome o (λ fs. (records : List
     (List ImageData)) → ListsLast records images → pages ≡ pages_of (files_data fs) records)) is read
 
-pub found_in : (X : BaseData → ℕ → Type 0) (told : Option Files)
-    → IfSome told (λ fs. (base : BaseData) (room : ℕ) → IsFound fs base room → X base room)
-    → (base : BaseData) (room : ℕ)
-    → Finds told base room → X base room
-found_in X None step base room found = absurd found
-found_in X (Some fs) step base room found = step base room found
+pub found_in : (X : FoundData → Type 0) (told : Option Files)
+    → IfSome told (λ fs. (found : FoundData) → IsFound fs found → X found) → (found : FoundData) → Finds told found
+    → X found
+found_in X None step found finds = absurd finds
+found_in X (Some fs) step found finds = step found finds
 
 -- ---- files that break the form
 

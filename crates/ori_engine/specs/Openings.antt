@@ -11,6 +11,7 @@ use Rattle.ori_spec_data.specs.Base.{BaseData, EntryData}
 use Rattle.ori_spec_data.specs.Soundness.{IsSoundBase}
 use Rattle.ori_spec_data.specs.Views.{are_real}
 use Rattle.ori_spec_data.specs.Keeping.{OpeningData, StateData}
+use Rattle.ori_spec_data.specs.Limits.{FoundData}
 use Rattle.ori_spec_crash.specs.Crash.{CrashSafe, doubts}
 use Rattle.ori_rows.specs.Stage.{OpensTo}
 use Rattle.ori_rows.specs.Rows.{base_with}
@@ -58,29 +59,29 @@ Starts (Err why) first now = LeavesBase first now
 abbrev pub OpensToOne : Type 0
 OpensToOne = (files : Files) (base other : BaseData) → OpensTo files base → OpensTo files other → base ≡ other
 
--- the files open to the base, and their log has this room
-pub record IsFound (files : Files) (base : BaseData) (room : ℕ) : Type 0 where
-  pub opens : OpensTo files base
+-- the files open to the base, and the room is what their log has behind its records
+pub record IsFound (files : Files) (found : FoundData) : Type 0 where
+  pub opens : OpensTo files found.base
   pub records : List (List ImageData)
   pub tail : IsTail (files_data files) records
-  pub room_is : room ≡ room_behind records
+  pub limit_is : found.limit ≡ Some (room_behind records)
 
 -- The same of the files that a volume tells; of one that doesn't tell nothing is known.
-abbrev pub Finds : Option Files → BaseData → ℕ → Type 0
-Finds None base room = ⊥
-Finds (Some files) base room = IsFound files base room
+abbrev pub Finds : Option Files → FoundData → Type 0
+Finds None found = ⊥
+Finds (Some files) found = IsFound files found
 
--- the state has the base that was found, which is sound, and the log has that room
-pub record IsStarted (base : BaseData) (room : ℕ) (state : StateData) : Type 0 where
-  pub sound : IsSoundBase base
-  pub base_is : state.base ≡ Some base
-  pub limit_is : state.limit ≡ Some room
+-- the state has the base that was found, which is sound, and the room
+pub record IsStarted (found : FoundData) (state : StateData) : Type 0 where
+  pub sound : IsSoundBase found.base
+  pub base_is : state.base ≡ Some found.base
+  pub limit_is : state.limit ≡ found.limit
 
 -- so has what is kept of the opening
-pub record IsStartedKept (base : BaseData) (room : ℕ) (k : Kept) : Type 0 where
-  pub sound : IsSoundBase base
-  pub rows_are : base_with (rows_of k.table.0) ≡ base
-  pub room_is : k.room ≡ room
+pub record IsStartedKept (found : FoundData) (k : Kept) : Type 0 where
+  pub sound : IsSoundBase found.base
+  pub rows_are : base_with (rows_of k.table.0) ≡ found.base
+  pub limit_is : Some k.room ≡ found.limit
 
 -- nothing has been committed, and nothing has failed
 pub record IsFresh (state : StateData) : Type 0 where
@@ -114,12 +115,13 @@ IsHaltedSince faults_old faults_new log_faults_old log_faults_new (Some faults) 
     Rose faults_old faults × (faults ≤ faults_new) × Rose log_faults_old log_faults_new
 
 -- What a volume's counts say of the state of the engine over it, and of the causes of its answers: Fault was answered
--- only where a call failed.
+-- only where a call failed and commits have ended.
 pub record IsCounted (state : StateData) (causes : Causes) (faults log_faults : ℕ) : Type 0 where
   pub later : state.opening.faults ≤ faults
   pub log_later : state.opening.log_faults ≤ log_faults
   pub halted : IsHaltedSince state.opening.faults faults state.opening.log_faults log_faults state.halted
   pub faulted : 0 < causes.fault → Rose state.opening.faults faults
+  pub faultless : state.halted ≡ None → causes.fault ≡ 0
 
 -- An engine's state is told: its base, whose records have real identifiers, the pages that it uses, the feed and what
 -- the log has room for. An entry is in doubt only where commits have ended, and no answer had a cause that pages in

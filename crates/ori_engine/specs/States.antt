@@ -4,10 +4,10 @@ use Rattle.std.specs.Prelude.{Result, Ok, Err, vec_len, vec_capacity, ⊤}
 use Rattle.ori_bytes.specs.declared.limits.TheConstants.{MAX_FEED_ENTRIES, MAX_FEED_BYTES}
 use Rattle.ori_volume.specs.Causes.{Rose}
 use Rattle.ori_volume.specs.Story.{Story}
-use Rattle.ori_spec_data.specs.Base.{BaseData, TxData, commit}
-use Rattle.ori_spec_data.specs.Apply.{fresh}
+use Rattle.ori_spec_data.specs.Base.{BaseData, TxData, AskedData, asks_commit}
+use Rattle.ori_spec_data.specs.Asked.{fresh_by, entry_on}
 use Rattle.ori_spec_data.specs.Keeping.{OpeningData, StateData, DecisionData, fault, device, busy, damaged, bytes_with}
-use Rattle.ori_spec_data.specs.Keeping.{DecidesCommit}
+use Rattle.ori_spec_data.specs.Keeping.{Decides}
 use Rattle.ori_log.specs.Log.{ImageData}
 use Rattle.ori_log.specs.Appending.{Appends}
 use Rattle.ori_log.specs.declared.log.Log.{Log}
@@ -50,19 +50,19 @@ pub record IsNewlyKept (k : Kept) : Type 0 where
   pub halted : k.halted ≡ None
   pub doubt : k.doubt ≡ None
 
--- nothing stands against the transaction so far
-pub record IsAskedOf (k : Kept) (tx : TxData) : Type 0 where
+-- nothing stands against what is asked so far
+pub record IsAskedOf (k : Kept) (asked : AskedData) : Type 0 where
   pub going : k.halted ≡ None
   pub entries : length k.feed.items < MAX_FEED_ENTRIES
-  pub bytes : bytes_with (entries_of k.feed.items) tx ≤ MAX_FEED_BYTES
+  pub bytes : bytes_with (entries_of k.feed.items) asked ≤ MAX_FEED_BYTES
 
 -- all that a commit needs before it writes
 pub record IsPrepared (k : Kept) (session : ℕ) (tx : TxData) (p : Prepared) : Type 0 where
-  pub asked : IsAskedOf k tx
+  pub asked : IsAskedOf k (asks_commit tx)
   pub staged : IsStaged (rows_of k.table.0) tx p.staged
-  pub entry_is : entry_of p.entry ≡ commit session tx (fresh (base_with (rows_of k.table.0)) tx)
-  pub fresh_is : p.fresh ≡ fresh (base_with (rows_of k.table.0)) tx
-  pub bytes_are : p.bytes ≡ bytes_with (entries_of k.feed.items) tx
+  pub entry_is : entry_of p.entry ≡ entry_on (base_with (rows_of k.table.0)) session (asks_commit tx)
+  pub fresh_is : p.fresh ≡ fresh_by (base_with (rows_of k.table.0)) (asks_commit tx)
+  pub bytes_are : p.bytes ≡ bytes_with (entries_of k.feed.items) (asks_commit tx)
 
 -- there are places for an entry, its mark, and so many positions
 pub record HasRoom (more : ℕ) (k : Kept) : Type 0 where
@@ -94,9 +94,9 @@ IsInside (busy turn) = ⊥
 IsInside (damaged page) = ⊥
 IsInside decision = ⊤
 
--- A commit is refused so, whatever the opening was, and nothing has changed; no write failed.
-pub record Refuses (k : Kept) (session : ℕ) (tx : TxData) (why : CommitFault) : Type 0 where
-  pub decides : (opening : OpeningData) → DecidesCommit (state_of k opening) session tx (told why) (state_of k opening)
+-- What is asked is refused so, whatever the opening was, and nothing has changed; no write failed.
+pub record Refuses (k : Kept) (session : ℕ) (asked : AskedData) (why : CommitFault) : Type 0 where
+  pub decides : (opening : OpeningData) → Decides (state_of k opening) session asked (told why) (state_of k opening)
   pub no_fault : told why ≡ fault → ⊥
   pub inside : IsInside (told why)
 

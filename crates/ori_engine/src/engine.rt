@@ -1,10 +1,11 @@
 // The engine, as statements read it and commit to it.
-ghost use Rattle.std.specs.Prelude.{◌≡◌, ◌+◌, ◌<◌, ◌≤◌, ◌↔◌, ℕ, length, None};
+ghost use Rattle.std.specs.Prelude.{◌≡◌, ◌+◌, ◌<◌, ◌≤◌, ◌↔◌, ℕ, [], length, None};
 ghost use Rattle.std.specs.Prelude.{Some, IsTrue, IsSome, IfOk, IfErr, OnOk, IfSome};
 ghost use Rattle.std.specs.Option.{ForSome};
 ghost use Rattle.ori_volume.specs.Causes.{Rose};
 ghost use Rattle.ori_volume.specs.Story.{Story, Tells};
-ghost use Rattle.ori_spec_data.specs.Base.{BaseData, initial_base};
+ghost use Rattle.ori_spec_data.specs.Base.{initial_base};
+ghost use Rattle.ori_spec_data.specs.Limits.{FoundData};
 ghost use Rattle.ori_rows.specs.Stage.{IsDatabase};
 ghost use Rattle.ori_spec_data.specs.Keeping.{counted, raised_count};
 ghost use Rattle.ori_log.specs.Files.{files_data};
@@ -38,6 +39,7 @@ pub struct Engine<V: Volume> {
         × Rose opened.log_faults (V.log_faults volume)) },
     ghost goes_on: { kept.halted ≡ None → V.log_faults volume ≡ opened.log_faults },
     ghost faulted: { 0 < causes.fault → Rose opened.faults (V.faults volume) },
+    ghost faultless: { kept.halted ≡ None → causes.fault ≡ 0 },
     ghost inside: { (causes.device ≡ 0) × (causes.busy ≡ 0) × (causes.damaged ≡ 0) },
 }
 
@@ -66,11 +68,13 @@ impl<V: Volume> Engine<V> {
 
     /// Opens a volume. Its log is attached, whose images and the homes behind them give the pages; the files of an
     /// empty volume are made. `NotADatabase` comes exactly where the files aren't of the form, and they are as they
-    /// were then. Whatever the answer, and whenever a crash comes, the files open to what they opened to before.
+    /// were then. Whatever the answer, and whenever a crash comes, the files open to what they opened to before. No entry
+    /// has a mark yet.
     pub fn start(alloc: Global, volume: V) -> Result<Engine<V>, Unopened<V>>
-        ensures found { IfOk result (λ e. (base : BaseData) (room : ℕ) → Finds (V.files volume) base room
-            → IsStarted base room (⟦<Engine<V> as Reader>⟧.state e)) }
+        ensures found { IfOk result (λ e. (found : FoundData) → Finds (V.files volume) found
+            → IsStarted found (⟦<Engine<V> as Reader>⟧.state e)) }
         ensures fresh { IfOk result (λ e. IsFresh (⟦<Engine<V> as Reader>⟧.state e)) }
+        ensures unmarked { IfOk result (λ e. e.kept.marks.items ≡ []) }
         ensures database { OnOk result (IfSome (V.files volume) (λ fs. IsDatabase (files_data fs))) }
         ensures not_a_database { IfErr result (λ u. u.fault ≡ StartFault.NotADatabase
             → IfSome (V.files volume) (λ fs. IsDatabase (files_data fs) → ⊥)) }
@@ -125,7 +129,8 @@ impl<V: Volume> Engine<V> {
     }
 
     /// What holds of every engine's volume: no count of faults is below that of the opening's end, commits have ended
-    /// exactly where a write, cut or sync of the log has failed since, and Fault was answered only where a call failed.
+    /// exactly where a write, cut or sync of the log has failed since, and Fault was answered only where a call failed
+    /// and commits have ended.
     pub fn keeps_counts(&self)
         ensures { IsCounted (⟦<Engine<V> as Reader>⟧.state self.now) (⟦<Engine<V> as Reader>⟧.causes self.now)
             (V.faults self.now.volume) (V.log_faults self.now.volume) }
@@ -146,9 +151,9 @@ impl<V: Volume> Engine<V> {
     }
 
     /// Gives the volume back, and what was kept. Commits have ended exactly where a write, cut or sync of the log has
-    /// failed since the opening, and Fault was answered only where a call failed. Since any moment for which the engine
-    /// is sound a crash leaves a prefix of the feed with each entry that has its mark by then, or all of it and the
-    /// entry in doubt.
+    /// failed since the opening, and Fault was answered only where a call failed and they have. Since any moment for
+    /// which the engine is sound a crash leaves a prefix of the feed with each entry that has its mark by then, or all
+    /// of it and the entry in doubt.
     pub fn end(self) -> Ended<V>
         ensures volume { result.volume ≡ self.volume }
         ensures marks { result.marks ≡ self.kept.marks.items }
@@ -270,7 +275,7 @@ impl<V: Volume> Keeper for Engine<V> {
     ghost use Rattle.ori_model.specs.Data.{tx_of};
     ghost use Rattle.ori_model.specs.Decisions.{decision_of};
     ghost use Rattle.ori_model.specs.Standing.{Endures};
-    ghost use Rattle.ori_engine.specs.States.{IsMarked};
+    ghost use Rattle.ori_engine.specs.States.{IsMarked, HaltsBy};
     ghost use Rattle.ori_engine.specs.KeeperLaws.{front_is, doubt_is};
 
     ghost shows_base = { λ e. refl };
@@ -304,6 +309,15 @@ impl<V: Volume> Keeper for Engine<V> {
             result }
         ensures fault_told { decision_of result ≡ fault
             → Rose (V.faults self.old.volume) (V.faults self.new.volume) }
+        ensures ends { decision_of result ≡ fault
+            → IsSome (⟦<Engine<V> as Reader>⟧.state self.new).halted
+            × IsSome (⟦<Engine<V> as Reader>⟧.state self.new).doubt }
+        ensures halts { HaltsBy (⟦<Engine<V> as Reader>⟧.state self.old).halted
+            (⟦<Engine<V> as Reader>⟧.state self.new).halted
+            (V.faults self.old.volume) (V.faults self.new.volume)
+            (V.log_faults self.old.volume) (V.log_faults self.new.volume) }
+        ensures later { V.faults self.old.volume ≤ V.faults self.new.volume }
+        ensures log_later { V.log_faults self.old.volume ≤ V.log_faults self.new.volume }
     {
         match self.kept.commit(&mut self.volume, session, tx) {
             Ok(done) => Ok(done),

@@ -38,8 +38,9 @@ impl Kept {
     ghost use Rattle.ori_bytes.specs.declared.limits.TheConstants.{MAX_PAGES};
     ghost use Rattle.ori_volume.specs.Causes.{Rose};
     ghost use Rattle.ori_volume.specs.Story.{Tells};
+    ghost use Rattle.ori_spec_data.specs.Base.{asks_commit};
     ghost use Rattle.ori_spec_data.specs.Apply.{IsFormed};
-    ghost use Rattle.ori_spec_data.specs.Keeping.{OpeningData, DecidesCommit, fault, bytes_with};
+    ghost use Rattle.ori_spec_data.specs.Keeping.{OpeningData, Decides, fault, bytes_with};
     ghost use Rattle.ori_spec_data.specs.Weighing.{entry_bytes};
     ghost use Rattle.ori_model.specs.Data.{tx_of, entry_of};
     ghost use Rattle.ori_model.specs.Decisions.{decision_of};
@@ -74,7 +75,7 @@ impl Kept {
 
     // Commits have not ended.
     fn check_going(&self, session: u8, tx: &Tx) -> Result<(), CommitFault>
-        ensures refused { IfErr result (Refuses self.now session (tx_of tx.now)) }
+        ensures refused { IfErr result (Refuses self.now session (asks_commit (tx_of tx.now))) }
         ensures going { OnOk result (self.now.halted ≡ None) }
     {
         match self.halted {
@@ -86,9 +87,9 @@ impl Kept {
     // The feed has room for the transaction's entry; what its bytes are with it.
     fn check_feed(&self, session: u8, tx: &Tx) -> Result<u64, CommitFault>
         requires { self.now.halted ≡ None }
-        ensures refused { IfErr result (Refuses self.now session (tx_of tx.now)) }
-        ensures asked { IfOk result (λ n. (n ≡ bytes_with (entries_of self.now.feed.items) (tx_of tx.now))
-            × IsAskedOf self.now (tx_of tx.now)) }
+        ensures refused { IfErr result (Refuses self.now session (asks_commit (tx_of tx.now))) }
+        ensures asked { IfOk result (λ n. (n ≡ bytes_with (entries_of self.now.feed.items)
+            (asks_commit (tx_of tx.now))) × IsAskedOf self.now (asks_commit (tx_of tx.now))) }
     {
         let entries = self.feed.len() as u64;
         let bytes = bytes_behind(self.bytes, tx.changes.as_slice())?;
@@ -104,7 +105,7 @@ impl Kept {
     // What a commit needs before it writes, or why it is refused.
     fn prepare(&self, alloc: Global, session: u8, tx: &Tx) -> Result<Prepared, CommitFault>
         requires { IsFormed (tx_of tx.now) }
-        ensures refused { IfErr result (Refuses self.now session (tx_of tx.now)) }
+        ensures refused { IfErr result (Refuses self.now session (asks_commit (tx_of tx.now))) }
         ensures prepared { IfOk result (IsPrepared self.now session (tx_of tx.now)) }
     {
         self.check_going(session, tx)?;
@@ -127,8 +128,8 @@ impl Kept {
     // Stages a transaction where nothing stands against it yet, or says why the base refuses it.
     fn stage(&self, alloc: Global, session: u8, tx: &Tx) -> Result<Staged, CommitFault>
         requires formed { IsFormed (tx_of tx.now) }
-        requires asked { IsAskedOf self.now (tx_of tx.now) }
-        ensures refused { IfErr result (Refuses self.now session (tx_of tx.now)) }
+        requires asked { IsAskedOf self.now (asks_commit (tx_of tx.now)) }
+        ensures refused { IfErr result (Refuses self.now session (asks_commit (tx_of tx.now))) }
         ensures staged { IfOk result (IsStaged (rows_of self.now.table.0) (tx_of tx.now)) }
     {
         self.table.stage(alloc, tx)
@@ -178,8 +179,8 @@ impl Kept {
         requires formed { IsFormed (tx_of tx.now) }
         requires prepared { IsPrepared self.old session (tx_of tx.now) prepared }
         requires room { HasRoom (length prepared.staged.outcomes.items) self.old }
-        ensures decided { (opening : OpeningData) → DecidesCommit (state_of self.old opening) session (tx_of tx.now)
-            (decision_of result) (state_of self.new opening) }
+        ensures decided { (opening : OpeningData) → Decides (state_of self.old opening) session
+            (asks_commit (tx_of tx.now)) (decision_of result) (state_of self.new opening) }
         ensures crash { Tells (StaysSafe (kept_of self.old) (kept_of self.new)) (V.story volume.old)
             (V.story volume.new) }
         ensures marked { IsMarked self.old.marks.items self.new.marks.items (V.moment volume.new) result }
@@ -188,6 +189,8 @@ impl Kept {
         ensures halts { HaltsBy self.old.halted self.new.halted (V.faults volume.old) (V.faults volume.new)
             (V.log_faults volume.old) (V.log_faults volume.new) }
         ensures fault_told { decision_of result ≡ fault → Rose (V.faults volume.old) (V.faults volume.new) }
+        ensures ends { decision_of result ≡ fault
+            → IsSome (kept_of self.new).halted × IsSome (kept_of self.new).doubt }
         ensures inside { IsInside (decision_of result) }
     {
         let Prepared {
@@ -219,9 +222,8 @@ impl Kept {
     /// Commits a session's transaction by one record of the log, or says why not; one without changes joins without a
     /// record. It is refused, in this order: Halted exactly where commits have ended; FeedFull exactly where the feed
     /// is full; as the base refuses it; LogFull exactly where the log needs more bytes than it has room for. Fault
-    /// comes only where a call of the volume failed in this call; where it was one of the log, commits have ended, and
-    /// the entry may be in doubt. After every other refusal nothing has changed. An accepted entry's mark is the moment
-    /// of the return.
+    /// comes only where a call of the volume failed in this call; commits have ended then, and the entry is in doubt.
+    /// After every other refusal nothing has changed. An accepted entry's mark is the moment of the return.
     pub fn commit<V: Volume>(
         &mut self,
         volume: &mut V,
@@ -229,8 +231,8 @@ impl Kept {
         tx: &Tx,
     ) -> Result<Done, CommitFault>
         requires { IsFormed (tx_of tx.now) }
-        ensures decided { (opening : OpeningData) → DecidesCommit (state_of self.old opening) session (tx_of tx.now)
-            (decision_of result) (state_of self.new opening) }
+        ensures decided { (opening : OpeningData) → Decides (state_of self.old opening) session
+            (asks_commit (tx_of tx.now)) (decision_of result) (state_of self.new opening) }
         ensures crash { Tells (StaysSafe (kept_of self.old) (kept_of self.new)) (V.story volume.old)
             (V.story volume.new) }
         ensures marked { IsMarked self.old.marks.items self.new.marks.items (V.moment volume.new) result }
@@ -239,6 +241,8 @@ impl Kept {
         ensures halts { HaltsBy self.old.halted self.new.halted (V.faults volume.old) (V.faults volume.new)
             (V.log_faults volume.old) (V.log_faults volume.new) }
         ensures fault_told { decision_of result ≡ fault → Rose (V.faults volume.old) (V.faults volume.new) }
+        ensures ends { decision_of result ≡ fault
+            → IsSome (kept_of self.new).halted × IsSome (kept_of self.new).doubt }
         ensures inside { IsInside (decision_of result) }
     {
         let alloc = *self.marks.allocator();

@@ -4,7 +4,7 @@ ghost use Rattle.std.specs.Prelude.{ℕ, List, IfOk, OnOk, IfSome, IfErr, IsErrO
 ghost use Rattle.ori_volume.specs.declared.file.FileNo.{FileNo};
 ghost use Rattle.ori_volume.specs.Story.{Tells, Reads};
 ghost use Rattle.ori_log.specs.Log.{ImageData, home_of, pages_of};
-ghost use Rattle.ori_spec_data.specs.Base.{BaseData};
+ghost use Rattle.ori_spec_data.specs.Limits.{FoundData};
 ghost use Rattle.ori_rows.specs.Stage.{IsDatabase};
 ghost use Rattle.ori_log.specs.Files.{files_data};
 ghost use Rattle.ori_log.specs.Attaching.{ListsLast};
@@ -114,7 +114,7 @@ fn read_pages<V: Volume>(
     Ok(pages)
 }
 
-// Why a log wasn't attached. An attach is never refused for want of room.
+// Why a log wasn't attached. An attach is never refused because the log is full.
 fn start_fault(fault: LogFault) -> StartFault
     ensures failed { result ≡ StartFault.Fault → fault ≡ LogFault.Failed }
     ensures form { result ≡ StartFault.NotADatabase → (file : FileNo) × (fault ≡ LogFault.NotALog file) }
@@ -128,8 +128,8 @@ fn start_fault(fault: LogFault) -> StartFault
 
 /// Attaches a volume's log, whose images and the homes behind them give the pages, and reads the rows from these.
 pub(crate) fn open_kept<V: Volume>(alloc: Global, volume: &mut V) -> Result<Kept, StartFault>
-    ensures found { IfOk result (λ k. (base : BaseData) (room : ℕ) → Finds (V.files volume.old) base room
-        → IsStartedKept base room k) }
+    ensures found { IfOk result (λ k. (found : FoundData) → Finds (V.files volume.old) found
+        → IsStartedKept found k) }
     ensures fresh { IfOk result IsNewlyKept }
     ensures database { OnOk result (IfSome (V.files volume.old) (λ fs. IsDatabase (files_data fs))) }
     ensures not_a_database { IsErrOf result StartFault.NotADatabase

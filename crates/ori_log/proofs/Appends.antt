@@ -1,16 +1,17 @@
 -- The moments of an append.
-use Rattle.std.proofs.Common.{◌≡◌, inl, ℕ, ◌+◌, ◌<◌, true, List, [], ◌∷◌, ◌++◌, length, take, flat_map, slice_index}
-use Rattle.std.proofs.Common.{get_or, Result, Ok, Err, OnOk, sym, ◌∙◌, ap, ap₂, subst, arith, append_assoc, append-nil}
+use Rattle.std.proofs.Common.{◌≡◌, inl, ℕ, ◌+◌, ◌<◌, max, true, List, [], ◌∷◌, ◌++◌, length, take, flat_map}
+use Rattle.std.proofs.Common.{slice_index, replicate, take_at, get_or, Result, Ok, Err, OnOk, sym, ◌∙◌, ap, ap₂, subst}
+use Rattle.std.proofs.Common.{arith, append_assoc}
 use Rattle.std.proofs.Common.{length-append, length-take}
 use Rattle.std.specs.List.{AllByRecursion}
 use Rattle.std.specs.Result.{IsErr}
-use Rattle.std.proofs.lemmas.List.{places}
+use Rattle.std.proofs.lemmas.List.{places, take-take, length-replicate}
 use Rattle.std.proofs.Math.Seq.{get_or-append_seam}
 use Rattle.ori_bytes.specs.declared.limits.TheConstants.{MAX_LOG_BYTES, OPEN_GATE}
 use Rattle.ori_volume.specs.declared.failed.Failed.{Failed}
 use Rattle.ori_volume.specs.declared.file.FileNo.{FileNo}
 use Rattle.ori_volume.specs.Disk.{of_file, with_file, FileData, Disk, files_of, IsImage}
-use Rattle.ori_volume.specs.Effects.{written, synced, Torn}
+use Rattle.ori_volume.specs.Effects.{put, written, synced, Torn}
 use Rattle.ori_volume.specs.Story.{Story, ChangesFile, Writes, Syncs}
 use Rattle.ori_volume.specs.Runs.{Run}
 use Rattle.ori_volume.proofs.Lasting.{written_torn}
@@ -18,11 +19,12 @@ use Rattle.ori_volume.proofs.RunSteps.{run_then, run_weaker, run_last, run_ends}
 use Rattle.ori_log.specs.Log.{ImageData, record_bytes, IsLogRecord}
 use Rattle.ori_log.specs.Files.{is_log_file, Behind}
 use Rattle.ori_log.specs.Images.{behind_gate}
-use Rattle.ori_log.specs.Staging.{staged, IsReady, Staged, Stages}
+use Rattle.ori_log.specs.Staging.{IsReady, Staged, Stages}
 use Rattle.ori_log.specs.Logs.{Names, HoldsLog, HoldsOneMore}
 use Rattle.ori_log.specs.Appending.{AppendMoment, WroteBody, OpenedGate}
 use Rattle.ori_log.specs.declared.stage.Stage.{Stage}
 use Rattle.ori_log.proofs.Behind.{with_twice, behind_refl, behind_then, torn_behind, synced_behind, same_behind}
+use Rattle.ori_log.proofs.Puts.{put_nil, length-put}
 use Rattle.ori_log.proofs.Stages.{on_err, put_front, StagesOk}
 use Rattle.ori_log.proofs.Logs.{all_more, each_has_tail, behind_holds, names_same, each_has_either, torn_gate}
 use Rattle.ori_log.proofs.Logs.{synced_log, synced_one_more}
@@ -69,45 +71,62 @@ module _ (file : FileNo) (place : ℕ) (records : List (List ImageData)) (images
       → IsReady file (place + 1) stage disk
   ready_behind stage disk at holds = record { behind = omega (arith, at); no_gap = omega (arith, at, holds.long) }
 
-  pub body_failed : (s0 s1 : Stage) (fault : Failed) (result : Answer) (old new : Story) → IsErr result
+  pub body_failed : (fill : ℕ) (s0 s1 : Stage) (fault : Failed) (result : Answer) (old new : Story) → IsErr result
       → s0.at ≡ place + 1
-      → Stages {T = Unit {0}} {E = Failed} file s0 s1 (behind_gate images) (Err fault) old new
+      → Stages {T = Unit {0}} {E = Failed} file s0 s1 (behind_gate images ++ replicate fill 0) (Err fault) old new
       → Names old.now.disk.master file → HoldsLog records place (of_file old.now.disk file)
-      → WroteBody file place records images result old new
-  body_failed s0 s1 fault result old new failed at stages names holds =
+      → WroteBody file place records images fill result old new
+  body_failed fill s0 s1 fault result old new failed at stages names holds =
       record {
         moments = run_weaker (Behind file (place + 1) MAX_LOG_BYTES old.now.disk)
             (AppendMoment file records images old.now.disk) old new
             (λ disk. behind_moment old.now.disk disk names holds)
             (stages (place + 1) (ready_behind s0 old.now.disk at holds)).0;
         behind = on_err _ result failed;
+        reads = on_err _ result failed;
       }
 
   -- the file once all that was staged is written
-  body_written : (s0 s1 : Stage) (old mid : Disk) → s0.at ≡ place + 1 → s0.filled ≡ 0 → s1.filled ≡ 0
-      → IsLogRecord images → (holds : HoldsLog records place (of_file old file))
-      → Staged file (place + 1) s0 s1 (behind_gate images) old mid
-      → (s1.at ≡ place + 1 + length (behind_gate images)) × (take (place + 1 + length (behind_gate images))
-      (of_file mid file).bytes ≡ flat_map record_bytes records ++ holds.gate ∷ behind_gate images)
-  body_written s0 s1 old mid at empty written is_record holds more =
-      let before : staged s0 (of_file old file) ≡ flat_map record_bytes records ++ holds.gate ∷ [] =
-      ap₂ (λ (n : ℕ) (k : ℕ). take n (of_file old file).bytes ++ take k s0.buffer.items) at empty ∙ append-nil _
-      ∙ holds.reads in
-      let after : staged s1 (of_file mid file) ≡ take s1.at (of_file mid file).bytes =
-      ap (λ (k : ℕ). take s1.at (of_file mid file).bytes ++ take k s1.buffer.items) written ∙ append-nil _ in
-      let all : take s1.at (of_file mid file).bytes ≡ flat_map record_bytes records ++ holds.gate ∷ behind_gate images =
-      sym after ∙ more.front ∙ ap (λ (l : List ℕ). l ++ behind_gate images) before
-      ∙ append_assoc (flat_map record_bytes records) (holds.gate ∷ []) (behind_gate images) in
-      let end : s1.at ≡ place + 1 + length (behind_gate images) =
-      omega (
-        arith,
-        ap length all,
-        length-take s1.at (of_file mid file).bytes,
-        more.ready.no_gap,
-        holds.place_is,
-        length-append (flat_map record_bytes records) (holds.gate ∷ behind_gate images),
-      ) in
-      (end, ap (λ (n : ℕ). take n (of_file mid file).bytes) (sym end) ∙ all)
+  body_written : (fill : ℕ) (s0 s1 : Stage) (old mid : Disk) → s0.at ≡ place + 1 → s0.filled ≡ 0 → s1.filled ≡ 0
+      → (holds : HoldsLog records place (of_file old file))
+      → Staged file (place + 1) s0 s1 (behind_gate images ++ replicate fill 0) old mid
+      → (of_file mid file).bytes ≡ put (of_file old file).bytes (place + 1) (behind_gate images ++ replicate fill 0)
+  body_written fill s0 s1 old mid at empty flushed holds more =
+      sym (put_nil (of_file mid file).bytes s1.at more.ready.no_gap)
+      ∙ ap (λ (k : ℕ). put (of_file mid file).bytes s1.at (take k s1.buffer.items)) (sym flushed)
+      ∙ more.reads
+      ∙ ap₂ (λ (n : ℕ) (k : ℕ). put (put (of_file old file).bytes n (take k s0.buffer.items)) (n + k)
+      (behind_gate images ++ replicate fill 0)) at empty
+      ∙ ap (λ (l : List ℕ). put l (place + 1 + 0) (behind_gate images ++ replicate fill 0))
+      (put_nil (of_file old file).bytes (place + 1) (omega (arith, holds.long)))
+      ∙ ap (λ (n : ℕ). put (of_file old file).bytes n (behind_gate images ++ replicate fill 0)) (omega arith)
+
+  -- it reads as the records, the gate, and the record behind it
+  body_reads : (fill : ℕ) (old mid : List ℕ) (gate : ℕ) → place < length old
+      → take (place + 1) old ≡ flat_map record_bytes records ++ gate ∷ []
+      → mid ≡ put old (place + 1) (behind_gate images ++ replicate fill 0)
+      → (place + length (behind_gate images) < length mid)
+      × (take (place + 1 + length (behind_gate images)) mid
+      ≡ flat_map record_bytes records ++ gate ∷ behind_gate images)
+  body_reads fill old mid gate long front is =
+      let bytes = behind_gate images in
+      let more = bytes ++ replicate fill 0 in
+      let count : length more ≡ length bytes + fill =
+      omega (arith, length-append bytes (replicate fill 0), length-replicate {A = ℕ} fill 0) in
+      let size : length mid ≡ max (length old) (place + 1 + length more) =
+      ap length is ∙ length-put old more (place + 1) (omega (arith, long)) in
+      let head : length (take (place + 1) old) ≡ place + 1 = omega (arith, length-take (place + 1) old, long) in (
+        omega (arith, size, count),
+        sym (take-take (place + 1 + length bytes) (place + 1 + length more) mid (omega (arith, count)))
+            ∙ ap (λ (l : List ℕ). take (place + 1 + length bytes) l)
+            (ap (λ (l : List ℕ). take (place + 1 + length more) l) is
+            ∙ put_front old more (place + 1) (omega (arith, long))
+            ∙ sym (append_assoc (take (place + 1) old) bytes (replicate fill 0)))
+            ∙ take_at (take (place + 1) old ++ bytes) (replicate fill 0) (place + 1 + length bytes)
+            (omega (arith, head, length-append (take (place + 1) old) bytes))
+            ∙ ap (λ (l : List ℕ). l ++ bytes) front
+            ∙ append_assoc (flat_map record_bytes records) (gate ∷ []) bytes,
+      )
 
   -- a body that reads as it was written is firm once it is synced
   firm_body : (result : Answer) (gate : ℕ) (mid new : Story) → Syncs {T = Unit {0}} {E = Failed} file result mid new
@@ -130,13 +149,23 @@ module _ (file : FileNo) (place : ℕ) (records : List (List ImageData)) (images
       )
   firm_body (Err fault) gate mid new syncs reads is_record whole place_is long = tt
 
-  pub body_done : (s0 s1 : Stage) (result : Answer) (old mid new : Story) → s0.at ≡ place + 1 → s0.filled ≡ 0
+  body_synced : (fill : ℕ) (result : Answer) (old mid new : Story)
+      → (of_file mid.now.disk file).bytes ≡ put (of_file old.now.disk file).bytes (place + 1)
+      (behind_gate images ++ replicate fill 0)
+      → Syncs {T = Unit {0}} {E = Failed} file result mid new
+      → OnOk result ((of_file new.now.disk file).bytes ≡ put (of_file old.now.disk file).bytes (place + 1)
+      (behind_gate images ++ replicate fill 0))
+  body_synced fill (Ok value) old mid new is syncs = ap (λ (d : FileData). d.bytes) syncs.change.here ∙ is
+  body_synced fill (Err fault) old mid new is syncs = tt
+
+  pub body_done : (fill : ℕ) (s0 s1 : Stage) (result : Answer) (old mid new : Story) → s0.at ≡ place + 1 → s0.filled ≡ 0
       → s1.filled ≡ 0
-      → IsImage mid.now.disk (files_of mid.now.disk) → StagesOk file s0 s1 (behind_gate images) old mid
+      → IsImage mid.now.disk (files_of mid.now.disk)
+      → StagesOk file s0 s1 (behind_gate images ++ replicate fill 0) old mid
       → Syncs {T = Unit {0}} {E = Failed} file result mid new
       → IsLogRecord images → Names old.now.disk.master file → HoldsLog records place (of_file old.now.disk file)
-      → WroteBody file place records images result old new
-  body_done s0 s1 result old mid new at empty written sound stages syncs is_record names holds =
+      → WroteBody file place records images fill result old new
+  body_done fill s0 s1 result old mid new at empty written sound stages syncs is_record names holds =
       let Q : Disk → Type 0 = Behind file (place + 1) MAX_LOG_BYTES old.now.disk in
       let put = stages (place + 1) (ready_behind s0 old.now.disk at holds) in
       let reached : Q mid.now.disk =
@@ -149,12 +178,14 @@ module _ (file : FileNo) (place : ℕ) (records : List (List ImageData)) (images
       (λ change. behind_then file (place + 1) MAX_LOG_BYTES old.now.disk mid.now.disk new.now.disk reached
       (same_behind file (place + 1) MAX_LOG_BYTES mid.now.disk new.now.disk change))
       syncs in
-      let is = body_written s0 s1 old.now.disk mid.now.disk at empty written is_record holds put.1 in
+      let is = body_written fill s0 s1 old.now.disk mid.now.disk at empty written holds put.1 in
+      let body = body_reads fill (of_file old.now.disk file).bytes (of_file mid.now.disk file).bytes holds.gate
+      holds.long holds.reads is in
       record {
         moments = run_weaker Q (AppendMoment file records images old.now.disk) old new
             (λ disk. behind_moment old.now.disk disk names holds) (run_then Q old mid new put.0 sync);
-        behind = firm_body result holds.gate mid new syncs is.1 is_record holds.whole holds.place_is
-            (omega (arith, is.0, (put.1).ready.no_gap));
+        behind = firm_body result holds.gate mid new syncs body.1 is_record holds.whole holds.place_is body.0;
+        reads = body_synced fill result old mid new is syncs;
       }
 
   -- the gate is written, done or failed
@@ -188,6 +219,7 @@ module _ (file : FileNo) (place : ℕ) (records : List (List ImageData)) (images
   gate_failed gate fault result old new failed room sound writes names holds = record {
     moments = write_gate gate (Err fault) old new room sound names holds writes;
     holds = on_err _ result failed;
+    reads = on_err _ result failed;
   }
 
   -- the gate reads as it was written
@@ -209,6 +241,14 @@ module _ (file : FileNo) (place : ℕ) (records : List (List ImageData)) (images
   open_log (Ok value) mid new holds syncs =
       synced_log records images place (of_file mid.now.disk file) (of_file new.now.disk file) holds syncs.change.here
   open_log (Err fault) mid new holds syncs = tt
+
+  gate_reads : (result : Answer) (old mid new : Story)
+      → Writes {T = Unit {0}} {E = Failed} file place (OPEN_GATE ∷ []) (Ok tt) old mid
+      → Syncs {T = Unit {0}} {E = Failed} file result mid new
+      → OnOk result ((of_file new.now.disk file).bytes ≡ put (of_file old.now.disk file).bytes place (OPEN_GATE ∷ []))
+  gate_reads (Ok value) old mid new writes syncs =
+      ap (λ (d : FileData). d.bytes) syncs.change.here ∙ ap (λ (d : FileData). d.bytes) writes.change.here
+  gate_reads (Err fault) old mid new writes syncs = tt
 
   pub gate_done : (gate : ℕ) (result : Answer) (old mid new : Story) → place < MAX_LOG_BYTES
       → IsImage old.now.disk (files_of old.now.disk) → IsImage mid.now.disk (files_of mid.now.disk)
@@ -247,4 +287,5 @@ module _ (file : FileNo) (place : ℕ) (records : List (List ImageData)) (images
       record {
         moments = run_then Q old mid new put sync;
         holds = open_log result mid new held syncs;
+        reads = gate_reads result old mid new writes syncs;
       }

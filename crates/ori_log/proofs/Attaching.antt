@@ -10,7 +10,7 @@ use Rattle.ori_volume.specs.Disk.{of_file, Disk, Files, files_of, IsImage}
 use Rattle.ori_volume.specs.Story.{Story, Reads}
 use Rattle.ori_volume.specs.Runs.{Run, EachImage}
 use Rattle.ori_volume.proofs.RunSteps.{run_begins, run_weaker, run_reads, run_then}
-use Rattle.ori_volume.proofs.Told.{of_files}
+use Rattle.ori_volume.proofs.Data.{of_files}
 use Rattle.ori_bytes.specs.declared.limits.TheConstants.{CLOSED_GATE, OPEN_GATE}
 use Rattle.ori_log.specs.Log.{ImageData, record_bytes, IsLog, IsTailOf}
 use Rattle.ori_log.specs.Files.{file_named, files_data}
@@ -41,8 +41,9 @@ each_as_read disk firm image allowed = λ i. record {
 firm_attached : (disk : Disk) (log : Log) (records : List (List ImageData)) → AllFirm disk
     → 0 < length disk.master.bytes → log.file ≡ file_named (slice_index disk.master.bytes 0)
     → IsLog (of_file disk log.file).bytes records → log.place ≡ length (flat_map record_bytes records)
-    → log.tail ≡ length records → IsAttached log records disk
-firm_attached disk log records firm some file (gate, rest, reads, closed, whole) place counts =
+    → log.tail ≡ length records → log.master ≡ slice_index disk.master.bytes 0
+    → log.length ≡ length (of_file disk log.file).bytes → IsAttached log records disk
+firm_attached disk log records firm some file (gate, rest, reads, closed, whole) place counts byte size =
     let front : List ℕ = flat_map record_bytes records in
     let long : log.place < length (of_file disk log.file).bytes =
     omega (arith, ap length reads, length-append front (gate ∷ rest), place) in
@@ -64,6 +65,8 @@ firm_attached disk log records firm some file (gate, rest, reads, closed, whole)
         long = long;
       };
       counts = counts;
+      byte = byte;
+      long = size;
     }
 
 -- ---- a new volume
@@ -86,9 +89,9 @@ new_fails fault result a b failed new makes = λ firm.
     }
 
 -- the log of files that have just been made
-new_attached : (disk : Disk) (log : Log) → AllFirm disk → files_of disk ≡ made_files → log.file ≡ LogA → log.place ≡ 0
-    → log.tail ≡ 0 → IsAttached log [] disk
-new_attached disk log firm made file place counts =
+new_attached : (disk : Disk) (log : Log) → AllFirm disk → files_of disk ≡ made_files → log.master ≡ 0 → log.file ≡ LogA
+    → log.place ≡ 0 → log.tail ≡ 0 → log.length ≡ 1 → IsAttached log [] disk
+new_attached disk log firm made byte file place counts size =
     let master : disk.master.bytes ≡ 0 ∷ [] = ap (λ (f : Files). f.master) made in
     let log_a : disk.log_a.bytes ≡ CLOSED_GATE ∷ [] = ap (λ (f : Files). f.log_a) made in
     let here : (of_file disk log.file).bytes ≡ CLOSED_GATE ∷ [] =
@@ -96,11 +99,12 @@ new_attached disk log firm made file place counts =
     firm_attached disk log [] firm (omega (arith, ap length master))
     (file ∙ sym (ap (λ (l : List ℕ). file_named (slice_index l 0)) master))
     (CLOSED_GATE, [], here, (λ (same : CLOSED_GATE ≡ OPEN_GATE). omega arith), tt) place counts
+    (byte ∙ sym (ap (λ (l : List ℕ). slice_index l 0) master)) (omega (arith, size, ap length here))
 
-pub new_done : (log : Log) (images : List ImageData) (a b : Story) → IsNew (files_of a.now.disk) → log.file ≡ LogA
-    → log.place ≡ 0 → log.tail ≡ 0 → images ≡ []
+pub new_done : (log : Log) (images : List ImageData) (a b : Story) → IsNew (files_of a.now.disk) → log.master ≡ 0
+    → log.file ≡ LogA → log.place ≡ 0 → log.tail ≡ 0 → log.length ≡ 1 → images ≡ []
     → Makes {T = Unit {0}} {E = Failed} (Ok tt) a b → AttachesFirm {E = LogFault} (Ok (log, images)) a b
-new_done log images a b new file place counts none makes = λ firm.
+new_done log images a b new byte file place counts size none makes = λ firm.
     let made = makes (record { firm = firm; new = new }) in
     record {
       making = made_moments a b new made.moments;
@@ -115,13 +119,13 @@ new_done log images a b new file place counts none makes = λ firm.
           lists = subst
               (λ (l : List ImageData). ListsLast [] l) (sym none) (record { rising = tt; last = λ page. refl });
         },
-        new_attached b.now.disk log made.firm made.made file place counts,
+        new_attached b.now.disk log made.firm made.made byte file place counts size,
       );
     }
 
 -- ---- a made one
 
-log_of : (master : List ℕ) (image : Files) (file : FileNo) (records : List (List ImageData)) → 0 < length master
+pub log_of : (master : List ℕ) (image : Files) (file : FileNo) (records : List (List ImageData)) → 0 < length master
     → file ≡ file_named (slice_index master 0) → IsTailOf master (files_data image) records
     → IsLog (of_file image file) records
 log_of [] image file records some is tail = absurd (omega (arith, some))
@@ -135,7 +139,8 @@ made_attached disk log records images firm made =
     firm_attached disk log records firm (omega (arith, made.made.master)) made.file
     (subst (λ (l : List ℕ). IsLog l records) (of_files disk log.file)
     (log_of disk.master.bytes (files_of disk) log.file records (omega (arith, made.made.master)) made.file
-    made.made.tail)) made.place made.counts
+    made.made.tail)) made.place made.counts made.byte
+    (made.long ∙ ap length (of_files disk log.file))
 
 kept : (result : Attachment) (a b : Story) → Reads a b → AllFirm a.now.disk
     → IfOk result (λ pair. (records : List (List ImageData)) × AttachesMade (files_of a.now.disk) records pair.0 pair.1)

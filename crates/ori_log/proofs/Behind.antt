@@ -8,8 +8,7 @@ use Rattle.ori_volume.specs.declared.file.FileNo.TheVariants.{Master, LogA, LogB
 use Rattle.ori_volume.specs.Disk.{Four, of_file, with_file, FileData, Disk, files_of, IsFileImage, IsImage}
 use Rattle.ori_volume.specs.Effects.{synced, is_touched, IsLoosened, Torn}
 use Rattle.ori_volume.specs.Story.{ChangesFile}
-use Rattle.ori_volume.proofs.Data.{with_of}
-use Rattle.ori_volume.proofs.Told.{of_files}
+use Rattle.ori_volume.proofs.Data.{with_of, of_files}
 use Rattle.ori_volume.proofs.Lasting.{bool_cases}
 use Rattle.ori_log.specs.Files.{Behind}
 

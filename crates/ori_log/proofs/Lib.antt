@@ -1,9 +1,12 @@
 pub mod Behind
+pub mod Puts
 pub mod Stages
+pub mod StageFiles
 pub mod Images
 pub mod Logs
 pub mod Appends
 pub mod Joins
+pub mod AppendFiles
 pub mod Settling
 pub mod Making
 pub mod Records
@@ -13,4 +16,7 @@ pub mod OneTail
 pub mod Entries
 pub mod Told
 pub mod Forms
+pub mod Switching
+pub mod SwitchFiles
 pub mod Attaching
+pub mod AttachStands

@@ -1,6 +1,6 @@
 -- How bytes are staged, one piece after another.
 use Rattle.std.proofs.Common.{true≢false, ◌≡◌, ℕ, ◌+◌, ◌-◌, ◌≤◌, List, [], ◌++◌, length, take, drop, replicate, Result}
-use Rattle.std.proofs.Common.{Ok, Err, OnOk, refl, sym, ◌∙◌, ap, ap₂, arith, append_assoc, append-nil, length-append}
+use Rattle.std.proofs.Common.{Ok, Err, OnOk, refl, sym, ◌∙◌, ap, ap₂, arith, append-nil, length-append}
 use Rattle.std.proofs.Common.{length-take, take_at}
 use Rattle.std.proofs.lemmas.List.{length-replicate}
 use Rattle.std.specs.Result.{IsErr}
@@ -15,9 +15,10 @@ use Rattle.ori_volume.proofs.Lasting.{written_torn}
 use Rattle.ori_volume.proofs.RunSteps.{run_begins, run_then, run_weaker, run_last, run_ends}
 pub use Rattle.ori_volume.proofs.Known.{tells_map, tells_then, tells_both}
 use Rattle.ori_log.specs.Files.{Behind}
-use Rattle.ori_log.specs.Staging.{IsReady, Staged, Stages}
+use Rattle.ori_log.specs.Staging.{ahead, IsReady, Staged, Stages}
 use Rattle.ori_log.specs.declared.stage.Stage.{Stage}
 use Rattle.ori_log.proofs.Behind.{behind_refl, behind_then, torn_behind}
+use Rattle.ori_log.proofs.Puts.{put_nil, put_put, length-put}
 
 pub on_ok : {T E : Type 0} (P Q : Type 0) (result : Result T E) → (P → Q) → OnOk result P → OnOk result Q
 on_ok P Q (Ok x) step holds = step holds
@@ -31,11 +32,23 @@ pub on_err : {T E : Type 0} (P : Type 0) (result : Result T E) → IsErr result 
 on_err P (Ok x) failed = absurd (true≢false (sym failed))
 on_err P (Err e) failed = tt
 
+pub waiting : (stage : Stage) → length (take stage.filled stage.buffer.items) ≡ stage.filled
+waiting stage = omega (arith, length-take stage.filled stage.buffer.items, stage.sized, stage.within)
+
+pub ahead_long : (stage : Stage) (file : List ℕ) → stage.at ≤ length file
+    → stage.at + stage.filled ≤ length (ahead stage file)
+ahead_long stage file no_gap =
+    omega (arith, length-put file (take stage.filled stage.buffer.items) stage.at no_gap, waiting stage)
+
 -- nothing was staged or written
 pub nothing_staged : (file : FileNo) (stage : Stage) (story : Story) → StagesOk file stage stage [] story story
 nothing_staged file stage story = λ low ready. (
   run_begins (Behind file low MAX_LOG_BYTES story.now.disk) story story refl,
-  record { ready = ready; front = sym (append-nil _) },
+  record {
+    ready = ready;
+    reached = omega arith;
+    reads = sym (put_nil _ _ (ahead_long stage (of_file story.now.disk file).bytes ready.no_gap));
+  },
 )
 
 pub stages_then : (file : FileNo) (s0 s1 s2 : Stage) (xs ys : List ℕ) (result : Result (Unit {0}) Failed)
@@ -53,8 +66,10 @@ stages_then file s0 s1 s2 xs ys result a b c first second = λ low ready.
           result
           (λ more. record {
             ready = more.ready;
-            front = more.front ∙ ap (λ (l : List ℕ). l ++ ys) (one.1).front
-                ∙ append_assoc _ xs ys;
+            reached = omega (arith, more.reached, (one.1).reached, length-append xs ys);
+            reads = more.reads ∙ ap₂ (λ (l : List ℕ) (n : ℕ). put l n ys) (one.1).reads (one.1).reached
+                ∙ put_put _ xs ys (s0.at + s0.filled)
+                (ahead_long s0 (of_file a.now.disk file).bytes ready.no_gap);
           }) two.1,
     )
 
@@ -77,10 +92,22 @@ stages_copied file s0 s1 s2 bytes a b place waits first = λ low ready.
       one.0,
       record {
         ready = record { behind = omega (arith, (one.1).ready.behind); no_gap = omega (arith, (one.1).ready.no_gap) };
-        front =
-            ap₂ (λ (n : ℕ) (l : List ℕ). take n (of_file b.now.disk file).bytes ++ l) place waits
-            ∙ sym (append_assoc (take s1.at (of_file b.now.disk file).bytes) _ bytes)
-            ∙ ap (λ (l : List ℕ). l ++ bytes) ((one.1).front ∙ append-nil _);
+        reached = omega (
+          arith,
+          place,
+          (one.1).reached,
+          waiting s2,
+          waiting s1,
+          ap length waits,
+          length-append (take s1.filled s1.buffer.items) bytes,
+        );
+        reads =
+            ap₂ (λ (n : ℕ) (l : List ℕ). put (of_file b.now.disk file).bytes n l) place waits
+            ∙ sym (put_put (of_file b.now.disk file).bytes (take s1.filled s1.buffer.items) bytes s1.at
+            (one.1).ready.no_gap)
+            ∙ ap₂ (λ (l : List ℕ) (n : ℕ). put l n bytes)
+            ((one.1).reads ∙ put_nil _ _ (ahead_long s0 (of_file a.now.disk file).bytes ready.no_gap))
+            (omega (arith, waiting s1, (one.1).reached));
       },
     )
 
@@ -152,12 +179,12 @@ module _ (file : FileNo) (s0 s1 : Stage) (bytes : List ℕ) (old new : Story)
             no_gap = omega
                 (arith, ap length reads, put_long (of_file old.now.disk file).bytes bytes s0.at);
           };
-          front =
-              ap₂ (λ (n : ℕ) (m : ℕ). take n (of_file new.now.disk file).bytes ++ take m s1.buffer.items) end empty
-              ∙ append-nil _
-              ∙ ap (λ (l : List ℕ). take (s0.at + length bytes) l) reads
-              ∙ put_front (of_file old.now.disk file).bytes bytes s0.at ready.no_gap
-              ∙ ap (λ (l : List ℕ). take s0.at (of_file old.now.disk file).bytes ++ l) waits
-              ∙ sym (append-nil _);
+          reached = omega (arith, reached, empty);
+          reads =
+              ap (λ (m : ℕ). put (of_file new.now.disk file).bytes s1.at (take m s1.buffer.items)) empty
+              ∙ put_nil (of_file new.now.disk file).bytes s1.at (omega
+              (arith, end, ap length reads, put_long (of_file old.now.disk file).bytes bytes s0.at))
+              ∙ reads ∙ ap (λ (l : List ℕ). put (of_file old.now.disk file).bytes s0.at l) waits
+              ∙ sym (put_nil _ _ (ahead_long s0 (of_file old.now.disk file).bytes ready.no_gap));
         },
       )

@@ -1,6 +1,6 @@
 -- What attaching a log gives.
 use Rattle.std.specs.Prelude.{◌≡◌, ◌⊎◌, ℕ, ◌+◌, ◌≤◌, List, [], length, flat_map, slice_index, Result, OnOk, IfOk}
-use Rattle.ori_volume.specs.Disk.{Files, files_of, IsImage}
+use Rattle.ori_volume.specs.Disk.{Files, of_file, files_of, IsImage}
 use Rattle.ori_volume.specs.Story.{Story, moment_of}
 use Rattle.ori_volume.specs.Runs.{Run, EachImage}
 use Rattle.ori_log.specs.Log.{ImageData, record_bytes, IsUnmade, IsMade, images_of, last_image}
@@ -37,7 +37,9 @@ pub record AttachesMade (files : Files) (records : List (List ImageData)) (log :
   pub made : IsMade (files_data files) records
   pub counts : log.tail ≡ length records
   pub lists : ListsLast records images
+  pub byte : log.master ≡ slice_index files.master 0
   pub file : log.file ≡ file_named (slice_index files.master 0)
+  pub long : log.length ≡ length (of_file files log.file)
   pub place : log.place ≡ length (flat_map record_bytes records)
 
 -- Until all four files are firm, which four moments end, a crash leaves what it might have left at entry. From then on

@@ -1,6 +1,7 @@
 pub mod Images
 pub mod Files
 pub mod Staging
+pub mod Switching
 pub mod Logs
 pub mod Appending
 pub mod Opening

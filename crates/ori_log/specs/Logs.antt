@@ -4,13 +4,19 @@ use Rattle.std.specs.List.{AllByRecursion}
 use Rattle.ori_bytes.specs.declared.limits.TheConstants.{OPEN_GATE}
 use Rattle.ori_volume.specs.declared.file.FileNo.{FileNo}
 use Rattle.ori_volume.specs.Disk.{FileData, Files}
-use Rattle.ori_log.specs.Log.{ImageData, record_bytes, IsLogRecord, IsTail}
+use Rattle.ori_log.specs.Log.{ImageData, record_bytes, IsLogRecord, IsTail, pages_of}
 use Rattle.ori_log.specs.Files.{file_named, files_data}
 use Rattle.ori_log.specs.Images.{behind_gate}
 
 -- the image has these records in its tail
 abbrev pub HasTail : List (List ImageData) → Files → Type 0
 HasTail records image = IsTail (files_data image) records
+
+-- The pages that an image gives: each is its last image in the tail, else it is as it stands at home.
+pub record GivesPages (pages : List (List ℕ)) (image : Files) : Type 0 where
+  pub records : List (List ImageData)
+  pub tail : HasTail records image
+  pub gives : pages_of (files_data image) records ≡ pages
 
 -- the master names this file, and a crash leaves it so
 pub record Names (master : FileData) (file : FileNo) : Type 0 where

@@ -4,13 +4,13 @@ ghost use Rattle.ori_volume.specs.declared.file.FileNo.{FileNo};
 ghost use Rattle.ori_volume.specs.Disk.{Files};
 ghost use Rattle.ori_volume.specs.Story.{Tells, Reads};
 ghost use Rattle.ori_log.specs.Log.{ImageData};
-ghost use Rattle.ori_log.specs.Appending.{FailsAs};
+ghost use Rattle.ori_log.specs.Appending.{FailsAs, StandsIn};
 ghost use Rattle.ori_log.specs.Attaching.{AttachesTo, AttachesMade, Attaches, AttachesFirm, IsKeptOrMade};
 ghost use Rattle.ori_log.specs.Forms.{BreaksFirst};
 ghost use Rattle.ori_log.specs.Measures.{Measures};
 
-use crate::form::{active_file, read_made};
-use crate::opening::{make, settle};
+use crate::form::{named_by, read_made, read_master};
+use crate::opening::{FIRST_MASTER, make, settle};
 use crate::sizes::Sizes;
 use crate::stage::Stage;
 use crate::{ImageList, Log, LogFault};
@@ -28,6 +28,7 @@ fn attach_new<V: Volume>(
     requires none { sizes.now.master ≡ 0 }
     ensures value { IfOk result (λ pair. IfSome (V.files volume.old)
         (λ fs. (records : List (List ImageData)) × AttachesTo fs records pair.0 pair.1)) }
+    ensures stands { IfOk result (λ pair. IfSome (V.files volume.new) (λ fs. StandsIn pair.0 fs)) }
     ensures not_a_log { (file : FileNo) → IsErrOf result (LogFault.NotALog file)
         → IfSome (V.files volume.old) (λ fs. BreaksFirst fs file) }
     ensures never_full { (need room : ℕ) → IsErrOf result (LogFault.LogFull need room) → ⊥ }
@@ -43,7 +44,7 @@ fn attach_new<V: Volume>(
         return Err(LogFault::NotALog { file });
     }
     make(volume)?;
-    Ok((Log::at(FileNo::LogA, 0, 0, stage), ImageList::new(alloc)))
+    Ok((Log::at(FIRST_MASTER, 0, 0, 1, stage), ImageList::new(alloc)))
 }
 
 // Reads the log of a volume that has a master.
@@ -70,9 +71,10 @@ fn attach_made<V: Volume>(
             file: FileNo::Master,
         });
     }
-    let file = active_file(volume)?;
+    let master = read_master(volume)?;
+    let file = named_by(master);
     let tail = read_made(alloc, volume, sizes, file)?;
-    let log = Log::at(file, tail.records, tail.place, stage);
+    let log = Log::at(master, tail.records, tail.place, sizes.of(file), stage);
     Ok((log, tail.into_images(alloc)?))
 }
 
@@ -84,6 +86,7 @@ fn attach_firm<V: Volume>(
 ) -> Result<(Log, ImageList), LogFault>
     ensures value { IfOk result (λ pair. IfSome (V.files volume.old)
         (λ fs. (records : List (List ImageData)) × AttachesTo fs records pair.0 pair.1)) }
+    ensures stands { IfOk result (λ pair. IfSome (V.files volume.new) (λ fs. StandsIn pair.0 fs)) }
     ensures not_a_log { (file : FileNo) → IsErrOf result (LogFault.NotALog file)
         → IfSome (V.files volume.old) (λ fs. BreaksFirst fs file) }
     ensures never_full { (need room : ℕ) → IsErrOf result (LogFault.LogFull need room) → ⊥ }
@@ -111,6 +114,7 @@ impl Log {
     pub fn attach<V: Volume>(alloc: Global, volume: &mut V) -> Result<(Log, ImageList), LogFault>
         ensures value { IfOk result (λ pair. IfSome (V.files volume.old)
             (λ fs. (records : List (List ImageData)) × AttachesTo fs records pair.0 pair.1)) }
+        ensures stands { IfOk result (λ pair. IfSome (V.files volume.new) (λ fs. StandsIn pair.0 fs)) }
         ensures not_a_log { (file : FileNo) → IsErrOf result (LogFault.NotALog file)
             → IfSome (V.files volume.old) (λ fs. BreaksFirst fs file) }
         ensures never_full { (need room : ℕ) → IsErrOf result (LogFault.LogFull need room) → ⊥ }

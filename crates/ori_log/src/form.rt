@@ -1,5 +1,6 @@
 // Whether the files of a made volume are of the form, and what their log comes to.
-ghost use Rattle.std.specs.Prelude.{◌≡◌, ◌<◌, ◌≤◌, ◌↔◌, ℕ, List, length, slice_index, IfOk, IfSome, IsErrOf, IsTrue, None};
+ghost use Rattle.std.specs.Prelude.{◌≡◌, ◌<◌, ◌≤◌, ◌↔◌, ℕ, List, length, slice_index, IfOk, IfSome, IsErrOf, IsTrue};
+ghost use Rattle.std.specs.Prelude.{None};
 ghost use Rattle.std.specs.Ordering.{nat_cmp};
 ghost use Rattle.std.specs.BTreeMap.{get};
 ghost use Rattle.ori_volume.specs.Causes.{HasCause};
@@ -20,8 +21,8 @@ use ori_bytes::limits::{MAX_LOG_BYTES, MAX_PAGES, MAX_PAGES_BYTES, PAGE_BYTES};
 use ori_volume::{Failed, FileNo, Volume};
 use std::alloc::Global;
 
-// The log that this byte names.
-fn named_by(byte: u8) -> FileNo
+/// The log that the master's byte names.
+pub fn named_by(byte: u8) -> FileNo
     ensures value { result ≡ file_named byte }
     ensures in_log { IsTrue (is_log_file result) }
 {
@@ -32,11 +33,9 @@ fn named_by(byte: u8) -> FileNo
     }
 }
 
-/// The log that the master names.
-pub fn active_file<V: Volume>(volume: &mut V) -> Result<FileNo, Failed>
-    ensures value { IfOk result (λ file. IfSome (V.files volume.old)
-        (λ fs. file ≡ file_named (slice_index fs.master 0))) }
-    ensures in_log { IfOk result (λ file. IsTrue (is_log_file file)) }
+/// The master's byte.
+pub fn read_master<V: Volume>(volume: &mut V) -> Result<u8, Failed>
+    ensures value { IfOk result (λ byte. IfSome (V.files volume.old) (λ fs. byte ≡ slice_index fs.master 0)) }
     ensures files { V.files volume.new ≡ V.files volume.old }
     ensures story { Tells Reads (V.story volume.old) (V.story volume.new) }
     ensures faults { HasCause (V.faults volume.old) (V.faults volume.new) result }
@@ -44,7 +43,7 @@ pub fn active_file<V: Volume>(volume: &mut V) -> Result<FileNo, Failed>
 {
     let mut byte = [0];
     volume.read_at(FileNo::Master, 0, &mut byte)?;
-    Ok(named_by(byte[0]))
+    Ok(byte[0])
 }
 
 // Whether each page that the tail doesn't name is whole in a file of pages of this length, or isn't there at all.

@@ -12,6 +12,7 @@ mod log;
 mod opening;
 mod sizes;
 mod stage;
+mod switch;
 mod tail;
 
 pub use fault::LogFault;

@@ -2,31 +2,36 @@
 ghost use Rattle.std.specs.Prelude.{◌≡◌, ◌+◌, ◌≤◌, ◌∷◌, [], length, Some, IfSome, OnOk};
 ghost use Rattle.ori_volume.specs.Causes.{HasCause};
 ghost use Rattle.ori_volume.specs.Disk.{Files};
-ghost use Rattle.ori_volume.specs.Story.{Tells, FilesWrite};
-ghost use Rattle.ori_log.specs.Opening.{IsNew, HasLogs, made_files, SyncsSound, WritesSound, Settles, MakesLogs, MakesMaster, Makes};
+ghost use Rattle.ori_volume.specs.Story.{Tells, FilesWrite, CountsLog};
+ghost use Rattle.ori_log.specs.Opening.{IsNew, HasLogs, made_files, SyncsSound, WritesSound, Settles, MakesLogs};
+ghost use Rattle.ori_log.specs.Opening.{MakesMaster, Makes};
 
 use ori_bytes::limits::{CLOSED_GATE, MAX_FILE_BYTES};
 use ori_volume::{Failed, FileNo, Volume};
 
-// The parity that names the first log.
-const FIRST_MASTER: u8 = 0;
+/// The master's byte of a new volume, which names the first log.
+pub const FIRST_MASTER: u8 = 0;
 
-fn sync_one<V: Volume>(volume: &mut V, file: FileNo) -> Result<(), Failed>
+/// Makes a file firm.
+pub fn sync_one<V: Volume>(volume: &mut V, file: FileNo) -> Result<(), Failed>
     ensures files { V.files volume.new ≡ V.files volume.old }
     ensures crash { Tells (SyncsSound file result) (V.story volume.old) (V.story volume.new) }
     ensures faults { HasCause (V.faults volume.old) (V.faults volume.new) result }
     ensures log_faults { V.log_faults volume.old ≤ V.log_faults volume.new }
     ensures log_fine { OnOk result (V.log_faults volume.new ≡ V.log_faults volume.old) }
+    ensures log_cause { CountsLog file (V.log_faults volume.old) (V.log_faults volume.new) result }
 {
     volume.sync(file)
 }
 
-fn write_first<V: Volume>(volume: &mut V, file: FileNo, byte: u8) -> Result<(), Failed>
+/// Writes the first byte of a file.
+pub fn write_first<V: Volume>(volume: &mut V, file: FileNo, byte: u8) -> Result<(), Failed>
     ensures files { Tells (FilesWrite file 0 (byte ∷ []) result) (V.files volume.old) (V.files volume.new) }
     ensures crash { Tells (WritesSound file (byte ∷ []) result) (V.story volume.old) (V.story volume.new) }
     ensures faults { HasCause (V.faults volume.old) (V.faults volume.new) result }
     ensures log_faults { V.log_faults volume.old ≤ V.log_faults volume.new }
     ensures log_fine { OnOk result (V.log_faults volume.new ≡ V.log_faults volume.old) }
+    ensures log_cause { CountsLog file (V.log_faults volume.old) (V.log_faults volume.new) result }
 {
     volume.write_at(file, 0, &[byte])
 }

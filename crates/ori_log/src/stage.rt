@@ -1,5 +1,6 @@
 // What goes to a log file, by way of one buffer.
-ghost use Rattle.std.specs.Prelude.{◌≡◌, ◌+◌, ◌*◌, ◌≤◌, [], ◌∷◌, ◌++◌, length, IsTrue, OnOk, map, flat_map, take};
+ghost use Rattle.std.specs.Prelude.{◌≡◌, ◌+◌, ◌*◌, ◌≤◌, [], ◌∷◌, ◌++◌, length, replicate, IsTrue, OnOk, map, flat_map};
+ghost use Rattle.std.specs.Prelude.{take};
 ghost use Rattle.std.specs.Int.{w32, to_be_bytes};
 ghost use Rattle.ori_log.specs.declared.stage.TheConstants.{STAGE_BYTES};
 ghost use Rattle.ori_volume.specs.Causes.{HasCause};
@@ -7,12 +8,12 @@ ghost use Rattle.ori_volume.specs.Story.{Tells};
 
 use crate::{ImageList, PageImage};
 use ori_bytes::NoMemory;
-use ori_bytes::limits::{CLOSED_GATE, MAX_LOG_BYTES, MAX_WEIGHT, PAGE_BYTES};
+use ori_bytes::limits::{CLOSED_GATE, LOG_STEP_BYTES, MAX_LOG_BYTES, MAX_WEIGHT, PAGE_BYTES};
 use ori_volume::{Failed, FileNo, Volume};
 use std::alloc::Global;
 
-/// Bytes that are staged for one write of the device.
-pub const STAGE_BYTES: usize = 1 << 16;
+/// Bytes that are staged for one write of the device: as many as the zeros that a log file may be lengthened by.
+pub const STAGE_BYTES: usize = LOG_STEP_BYTES as usize;
 
 /// Bytes of an image: the page's number and its content.
 pub const IMAGE_BYTES: u64 = 4 + PAGE_BYTES as u64;
@@ -30,7 +31,7 @@ pub struct Stage {
 }
 
 impl Stage {
-    ghost use Rattle.ori_log.specs.Staging.{Stages};
+    ghost use Rattle.ori_log.specs.Staging.{Stages, StagesFiles};
     ghost use Rattle.ori_log.specs.Files.{is_log_file};
     ghost use Rattle.ori_log.specs.Images.{image_data, behind_gate};
     ghost use Rattle.ori_log.specs.Log.{image_bytes};
@@ -60,6 +61,7 @@ impl Stage {
         ensures reached { OnOk result (self.new.at ≡ self.old.at + self.old.filled) }
         ensures empty { OnOk result (self.new.filled ≡ 0) }
         ensures later { self.old.at ≤ self.new.at }
+        ensures files { Tells (StagesFiles file self.old self.new [] result) (V.files volume.old) (V.files volume.new) }
         ensures crash { Tells (Stages file self.old self.new [] result) (V.story volume.old) (V.story volume.new) }
         ensures faults { HasCause (V.faults volume.old) (V.faults volume.new) result }
         ensures log_faults { HasCause (V.log_faults volume.old) (V.log_faults volume.new) result }
@@ -84,6 +86,7 @@ impl Stage {
         ensures fits { OnOk result (self.new.filled + count ≤ STAGE_BYTES) }
         ensures reached { OnOk result (self.new.at + self.new.filled ≡ self.old.at + self.old.filled) }
         ensures later { self.old.at ≤ self.new.at }
+        ensures files { Tells (StagesFiles file self.old self.new [] result) (V.files volume.old) (V.files volume.new) }
         ensures crash { Tells (Stages file self.old self.new [] result) (V.story volume.old) (V.story volume.new) }
         ensures faults { HasCause (V.faults volume.old) (V.faults volume.new) result }
         ensures log_faults { HasCause (V.log_faults volume.old) (V.log_faults volume.new) result }
@@ -121,6 +124,8 @@ impl Stage {
         ensures reached { OnOk result (self.new.at + self.new.filled
             ≡ self.old.at + self.old.filled + length bytes.now) }
         ensures later { self.old.at ≤ self.new.at }
+        ensures files { Tells (StagesFiles file self.old self.new bytes.now result) (V.files volume.old)
+            (V.files volume.new) }
         ensures crash { Tells (Stages file self.old self.new bytes.now result) (V.story volume.old)
             (V.story volume.new) }
         ensures faults { HasCause (V.faults volume.old) (V.faults volume.new) result }
@@ -143,6 +148,8 @@ impl Stage {
         requires room { self.old.at + self.old.filled + IMAGE_BYTES ≤ MAX_LOG_BYTES }
         ensures reached { OnOk result (self.new.at + self.new.filled ≡ self.old.at + self.old.filled + IMAGE_BYTES) }
         ensures later { self.old.at ≤ self.new.at }
+        ensures files { Tells (StagesFiles file self.old self.new (image_bytes (image_data image.now)) result)
+            (V.files volume.old) (V.files volume.new) }
         ensures crash { Tells (Stages file self.old self.new (image_bytes (image_data image.now)) result)
             (V.story volume.old) (V.story volume.new) }
         ensures faults { HasCause (V.faults volume.old) (V.faults volume.new) result }
@@ -165,6 +172,9 @@ impl Stage {
         ensures reached { OnOk result (self.new.at + self.new.filled
             ≡ self.old.at + self.old.filled + IMAGE_BYTES * length images.now) }
         ensures later { self.old.at ≤ self.new.at }
+        ensures files { Tells (StagesFiles file self.old self.new (flat_map image_bytes
+            (map image_data images.now)) result)
+            (V.files volume.old) (V.files volume.new) }
         ensures crash { Tells (Stages file self.old self.new (flat_map image_bytes (map image_data images.now)) result)
             (V.story volume.old) (V.story volume.new) }
         ensures faults { HasCause (V.faults volume.old) (V.faults volume.new) result }
@@ -189,6 +199,9 @@ impl Stage {
         requires room { self.old.at + self.old.filled + 8 ≤ MAX_LOG_BYTES }
         ensures reached { OnOk result (self.new.at + self.new.filled ≡ self.old.at + self.old.filled + 8) }
         ensures later { self.old.at ≤ self.new.at }
+        ensures files { Tells (StagesFiles file self.old self.new
+            (to_be_bytes w32 (4 + IMAGE_BYTES * count) ++ to_be_bytes w32 count) result)
+            (V.files volume.old) (V.files volume.new) }
         ensures crash { Tells (Stages file self.old self.new
             (to_be_bytes w32 (4 + IMAGE_BYTES * count) ++ to_be_bytes w32 count) result)
             (V.story volume.old) (V.story volume.new) }
@@ -201,44 +214,96 @@ impl Stage {
         self.put(volume, file, &count.to_be_bytes())
     }
 
-    // Stages the gate behind a record, and writes all that waits.
-    fn put_end<V: Volume>(&mut self, volume: &mut V, file: FileNo) -> Result<(), Failed>
+    // Puts zeros that there is room for behind what waits.
+    fn copy_zeros(&mut self, count: usize)
+        requires { self.old.filled + count ≤ STAGE_BYTES }
+        ensures place { self.new.at ≡ self.old.at }
+        ensures count { self.new.filled ≡ self.old.filled + count }
+        ensures value { take self.new.filled self.new.buffer.items
+            ≡ take self.old.filled self.old.buffer.items ++ replicate count 0 }
+    {
+        let end = self.filled + count;
+        self.buffer[self.filled..end].fill(0);
+        self.filled = end;
+    }
+
+    // Stages zeros behind the others.
+    fn put_zeros<V: Volume>(
+        &mut self,
+        volume: &mut V,
+        file: FileNo,
+        count: usize,
+    ) -> Result<(), Failed>
         requires log_file { IsTrue (is_log_file file) }
-        requires room { self.old.at + self.old.filled + 1 ≤ MAX_LOG_BYTES }
-        ensures reached { OnOk result (self.new.at ≡ self.old.at + self.old.filled + 1) }
-        ensures empty { OnOk result (self.new.filled ≡ 0) }
+        requires piece { count ≤ STAGE_BYTES }
+        requires room { self.old.at + self.old.filled + count ≤ MAX_LOG_BYTES }
+        ensures reached { OnOk result (self.new.at + self.new.filled ≡ self.old.at + self.old.filled + count) }
         ensures later { self.old.at ≤ self.new.at }
-        ensures crash { Tells (Stages file self.old self.new (CLOSED_GATE ∷ []) result) (V.story volume.old)
+        ensures files { Tells (StagesFiles file self.old self.new (replicate count 0) result) (V.files volume.old)
+            (V.files volume.new) }
+        ensures crash { Tells (Stages file self.old self.new (replicate count 0) result) (V.story volume.old)
             (V.story volume.new) }
         ensures faults { HasCause (V.faults volume.old) (V.faults volume.new) result }
         ensures log_faults { HasCause (V.log_faults volume.old) (V.log_faults volume.new) result }
         ensures log_fine { OnOk result (V.log_faults volume.new ≡ V.log_faults volume.old) }
     {
+        self.make_room(volume, file, count)?;
+        self.copy_zeros(count);
+        Ok(())
+    }
+
+    // Stages the gate behind a record and so many zeros behind that, and writes all that waits.
+    fn put_end<V: Volume>(
+        &mut self,
+        volume: &mut V,
+        file: FileNo,
+        zeros: usize,
+    ) -> Result<(), Failed>
+        requires log_file { IsTrue (is_log_file file) }
+        requires piece { zeros ≤ STAGE_BYTES }
+        requires room { self.old.at + self.old.filled + 1 + zeros ≤ MAX_LOG_BYTES }
+        ensures reached { OnOk result (self.new.at ≡ self.old.at + self.old.filled + 1 + zeros) }
+        ensures empty { OnOk result (self.new.filled ≡ 0) }
+        ensures later { self.old.at ≤ self.new.at }
+        ensures files { Tells (StagesFiles file self.old self.new (CLOSED_GATE ∷ replicate zeros 0) result)
+            (V.files volume.old) (V.files volume.new) }
+        ensures crash { Tells (Stages file self.old self.new (CLOSED_GATE ∷ replicate zeros 0) result)
+            (V.story volume.old) (V.story volume.new) }
+        ensures faults { HasCause (V.faults volume.old) (V.faults volume.new) result }
+        ensures log_faults { HasCause (V.log_faults volume.old) (V.log_faults volume.new) result }
+        ensures log_fine { OnOk result (V.log_faults volume.new ≡ V.log_faults volume.old) }
+    {
         self.put(volume, file, &[CLOSED_GATE])?;
+        self.put_zeros(volume, file, zeros)?;
         self.flush(volume, file)
     }
 
-    /// Writes a record's body with its length before it and a closed gate behind it, from where it began.
+    /// Writes a record's body with its length before it and a closed gate and so many zeros behind it, from where it
+    /// began.
     pub fn put_record<V: Volume>(
         &mut self,
         volume: &mut V,
         file: FileNo,
         images: &ImageList,
+        zeros: usize,
     ) -> Result<(), Failed>
         requires log_file { IsTrue (is_log_file file) }
         requires few { length images.now ≤ MAX_WEIGHT }
-        requires room { self.old.at + self.old.filled + 9 + IMAGE_BYTES * length images.now ≤ MAX_LOG_BYTES }
+        requires piece { zeros ≤ STAGE_BYTES }
+        requires room { self.old.at + self.old.filled + 9 + IMAGE_BYTES * length images.now + zeros ≤ MAX_LOG_BYTES }
         ensures reached { OnOk result (self.new.at
-            ≡ self.old.at + self.old.filled + 9 + IMAGE_BYTES * length images.now) }
+            ≡ self.old.at + self.old.filled + 9 + IMAGE_BYTES * length images.now + zeros) }
         ensures empty { OnOk result (self.new.filled ≡ 0) }
-        ensures crash { Tells (Stages file self.old self.new (behind_gate images.now) result) (V.story volume.old)
-            (V.story volume.new) }
+        ensures files { Tells (StagesFiles file self.old self.new (behind_gate images.now ++ replicate zeros 0) result)
+            (V.files volume.old) (V.files volume.new) }
+        ensures crash { Tells (Stages file self.old self.new (behind_gate images.now ++ replicate zeros 0) result)
+            (V.story volume.old) (V.story volume.new) }
         ensures faults { HasCause (V.faults volume.old) (V.faults volume.new) result }
         ensures log_faults { HasCause (V.log_faults volume.old) (V.log_faults volume.new) result }
         ensures log_fine { OnOk result (V.log_faults volume.new ≡ V.log_faults volume.old) }
     {
         self.put_head(volume, file, images.len() as u32)?;
         self.put_images(volume, file, images.as_slice())?;
-        self.put_end(volume, file)
+        self.put_end(volume, file, zeros)
     }
 }

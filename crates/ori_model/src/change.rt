@@ -1,6 +1,10 @@
 // What transactions do to records.
-ghost use Rattle.std.specs.Prelude.{◌≡◌, IfOk};
+ghost use Rattle.std.specs.Prelude.{◌≡◌, IfOk, Some, None, option_map};
+ghost use Rattle.ori_spec_data.specs.Apply.{target};
+ghost use Rattle.ori_spec_data.specs.Staging.{laid_over};
+ghost use Rattle.ori_model.specs.Data.{change_of, record_of};
 
+use crate::Stored;
 use ori_bytes::{Copied, ListOf, NoMemory, Rid, Text};
 use ori_value::FieldList;
 
@@ -34,7 +38,7 @@ pub enum Change {
 }
 
 impl Change {
-    /// A copy, or want of memory.
+    /// A copy, or out of memory.
     pub fn copy(&self) -> Result<Self, NoMemory>
         ensures { IfOk result (λ c. c ≡ self.now) }
     {
@@ -67,6 +71,39 @@ impl Change {
             },
         })
     }
+
+    /// The identifier of the record that it is of; of a new one the temporary.
+    pub fn target(&self) -> Rid
+        ensures { result ≡ target (change_of self.now) }
+    {
+        match self {
+            Change::Create { temp, .. } => *temp,
+            Change::Update { rid, .. } => *rid,
+            Change::Delete { rid, .. } => *rid,
+            Change::Touch { rid, .. } => *rid,
+        }
+    }
+
+    /// The new record as its transaction shows it, with the temporary identifier and version 0, where it makes one.
+    pub fn created(&self) -> Result<Option<Stored>, NoMemory>
+        ensures { IfOk result (λ o. option_map record_of o ≡ laid_over (Some (change_of self.now)) None) }
+    {
+        match self {
+            Change::Create {
+                temp,
+                class,
+                fields,
+            } => Ok(Some(Stored {
+                rid: *temp,
+                version: 0,
+                class: class.copy()?,
+                fields: fields.copy()?,
+            })),
+            Change::Update { .. } => Ok(None),
+            Change::Delete { .. } => Ok(None),
+            Change::Touch { .. } => Ok(None),
+        }
+    }
 }
 
 impl Copied for Change {
@@ -89,7 +126,7 @@ pub struct Tx {
 }
 
 impl Tx {
-    /// A copy, or want of memory.
+    /// A copy, or out of memory.
     pub fn copy(&self) -> Result<Self, NoMemory>
         ensures { IfOk result (λ t. t ≡ self.now) }
     {

@@ -16,7 +16,7 @@ pub enum Definition {
 }
 
 impl Definition {
-    /// A copy, or want of memory.
+    /// A copy, or out of memory.
     pub fn copy(&self) -> Result<Self, NoMemory>
         ensures { IfOk result (λ d. d ≡ self.now) }
     {
@@ -52,7 +52,7 @@ pub enum Entry {
 }
 
 impl Entry {
-    /// A copy, or want of memory.
+    /// A copy, or out of memory.
     pub fn copy(&self) -> Result<Self, NoMemory>
         ensures { IfOk result (λ e. e ≡ self.now) }
     {

@@ -16,7 +16,7 @@ pub struct Stored {
 }
 
 impl Stored {
-    /// A copy, or want of memory.
+    /// A copy, or out of memory.
     pub fn copy(&self) -> Result<Self, NoMemory>
         ensures { IfOk result (λ s. s ≡ self.now) }
     {

@@ -12,7 +12,7 @@ pub struct Row {
 }
 
 impl Row {
-    /// A copy, or want of memory.
+    /// A copy, or out of memory.
     pub fn copy(&self) -> Result<Self, NoMemory>
         ensures { IfOk result (λ r. r ≡ self.now) }
     {

@@ -23,7 +23,7 @@ pub struct Property {
 }
 
 impl Property {
-    /// A copy, or want of memory.
+    /// A copy, or out of memory.
     pub fn copy(&self) -> Result<Self, NoMemory>
         ensures { IfOk result (λ p. p ≡ self.now) }
     {
@@ -59,7 +59,7 @@ pub struct Class {
 }
 
 impl Class {
-    /// A copy, or want of memory.
+    /// A copy, or out of memory.
     pub fn copy(&self) -> Result<Self, NoMemory>
         ensures { IfOk result (λ c. c ≡ self.now) }
     {
@@ -103,7 +103,7 @@ pub struct IndexDef {
 }
 
 impl IndexDef {
-    /// A copy, or want of memory.
+    /// A copy, or out of memory.
     pub fn copy(&self) -> Result<Self, NoMemory>
         ensures { IfOk result (λ i. i ≡ self.now) }
     {
@@ -133,7 +133,7 @@ pub struct Schema {
 }
 
 impl Schema {
-    /// A copy, or want of memory.
+    /// A copy, or out of memory.
     pub fn copy(&self) -> Result<Self, NoMemory>
         ensures { IfOk result (λ s. s ≡ self.now) }
     {

@@ -1,1 +1,4 @@
 mod Filling
+pub mod Heading
+pub mod Listing
+mod Refusing

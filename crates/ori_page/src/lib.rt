@@ -1,5 +1,15 @@
-//! Pages: 4,096 bytes each, which begin with the number of their owner and their kind. Numbers on a page are big-endian.
+//! Pages: 4,096 bytes each, which begin with the number of their owner and their kind. Numbers on a page are
+//! big-endian.
+//!
+//! A [`PageSpace`] is a list of pages that structures read, write, take and release one at a time. [`MemPages`] is one
+//! in memory.
 #![tactic(auto)]
+
+mod fault;
+mod free;
+mod head;
+mod memory_pages;
+mod space;
 
 ghost use Rattle.std.specs.Prelude.{◌≡◌, ◌+◌, ◌≤◌, ◌++◌, ℕ, List, length, take, drop, replicate, slice_index, IfOk};
 ghost use Rattle.std.specs.Int.{w16, w32, from_be_bytes};
@@ -7,8 +17,12 @@ ghost use Rattle.std.specs.Borrow.{sem};
 ghost use Rattle.ori_page.specs.Pages.{filled};
 ghost use Rattle.ori_page.specs.Lending.{LendsBytes};
 
+pub use fault::PageFault;
+pub use head::Head;
+pub use memory_pages::MemPages;
 use ori_bytes::NoMemory;
 use ori_bytes::limits::PAGE_BYTES;
+pub use space::PageSpace;
 use std::alloc::Global;
 use std::marker::Model;
 

@@ -157,7 +157,9 @@ opens = record {
   sound = sound;
   stands = inr (
     images ∷ [],
-    record
-        { form = made; stands = inr (record { schema = refl; grown = refl; next = refl; head = refl; each = is-page }) },
+    record {
+      form = made;
+      stands = inr (record { schema = refl; grown = refl; next = refl; head = refl; each = is-page });
+    },
   );
 }

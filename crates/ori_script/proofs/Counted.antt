@@ -31,7 +31,7 @@ module _ (old new : Causes) (inside : IsInside new) where
   pub no_damaged : new ≡ with_damaged old → ⊥
   no_damaged is = not_raised old.damaged new.damaged (ap (λ (c : Causes). c.damaged) is) inside.damaged
 
-  -- so a read fails for want of memory alone
+  -- so a read fails only where it is out of memory
   pub only_memory : (why : ReadFault) → new ≡ read_counted {T = Unit {0}} (Err why) old
       → read_refusal why ≡ replies.no_memory
   only_memory Device is = absurd (no_device is)

@@ -8,7 +8,7 @@ use Rattle.ori_bytes.specs.declared.limits.TheConstants.{MAX_SESSIONS}
 use Rattle.ori_volume.specs.Disk.{Files}
 use Rattle.ori_volume.specs.Streams.{Gave}
 use Rattle.ori_volume.proofs.Pieces.{took_nothing, gave_nothing, gave_more}
-use Rattle.ori_spec_data.specs.Base.{BaseData, EntryData}
+use Rattle.ori_spec_data.specs.Base.{EntryData}
 use Rattle.ori_spec_data.specs.Histories.{IsLegalHistory}
 use Rattle.ori_spec_data.specs.Soundness.{IsSoundBase}
 use Rattle.ori_spec_texts.specs.Line.{LineData, statement, tries, step, StopData, at_end, at_bad_line, at_limit, Splits}
@@ -25,6 +25,7 @@ use Rattle.ori_text.specs.Lines.{Reading, joined, AreWhole, HasLast}
 use Rattle.ori_text.specs.LineReading.{Moves, HoldsPart, IsLine, IsEndOfInput, IsSourceFault, IsFault, IsAtEnd, line_of}
 use Rattle.ori_text.proofs.Splitting.{joined-append, AreWhole-append, parts_of}
 use Rattle.ori_text.proofs.Reading.{no_long}
+use Rattle.ori_spec_data.specs.Limits.{FoundData}
 use Rattle.ori_engine.specs.Openings.{Finds, IsStarted, IsFresh}
 use Rattle.ori_script.specs.declared.run.Turn.{Turn}
 use Rattle.ori_script.specs.declared.run.Turn.TheVariants.{Answered, Ended}
@@ -191,23 +192,23 @@ whole_given l0 l2 reading said m part goes_on =
 -- ---- ends
 
 -- a base that a volume was found with is sound
-found_sound : (files : Option Files) (base : BaseData) (room : ℕ) → Finds files base room → IsSoundBase base
-found_sound None base room finds = absurd finds
-found_sound (Some f) base room finds = finds.opens.sound
+found_sound : (files : Option Files) (found : FoundData) → Finds files found → IsSoundBase found.base
+found_sound None found finds = absurd finds
+found_sound (Some f) found finds = finds.opens.sound
 
 -- a run ends there
-ran_to : (files : Option Files) (base : BaseData) (room : ℕ) (said : List LineData) (answers : List AnswerData)
-    (kept : KeptData) → Finds files base room → RunsTo base room said answers kept
-    → RanTo base room said answers (left_of kept.store)
-ran_to files base room said answers kept finds r =
+ran_to : (files : Option Files) (found : FoundData) (said : List LineData) (answers : List AnswerData)
+    (kept : KeptData) → Finds files found → RunsTo found said answers kept
+    → RanTo found said answers (left_of kept.store)
+ran_to files found said answers kept finds r =
     let is : kept.store.earlier ++ unwrap_or kept.store.state.feed [] ≡ r.now.history =
     ap (λ (o : Option (List EntryData)). kept.store.earlier ++ unwrap_or o []) r.keeps.feed ∙ sym r.keeps.history in
-    let legal = run_legal base (Some room) said answers r.now (found_sound files base room finds) r.run in
+    let legal = run_legal found said answers r.now (found_sound files found finds) r.run in
     record {
       final = r.now;
       run = r.run;
       history_is = is;
-      legal = subst (λ (h : List EntryData). IsLegalHistory base h) (sym is) legal;
+      legal = subst (λ (h : List EntryData). IsLegalHistory found.base h) (sym is) legal;
       failed_is = r.keeps.failed;
       doubt_is = r.keeps.doubt;
       doubtful_is = ap₂ (λ (f d : List (ℕ × EntryData)). f ++ d) r.keeps.failed
@@ -216,12 +217,12 @@ ran_to files base room said answers kept finds r =
     }
 
 -- the run so far over lines that say nothing more
-ran_on : (files : Option Files) (base : BaseData) (room : ℕ) (said : List LineData) (answers : List AnswerData)
-    (kept : KeptData) → Finds files base room → RunsTo base room said answers kept
-    → RanTo base room (said ++ []) answers (left_of kept.store)
-ran_on files base room said answers kept finds r =
-    subst (λ (s : List LineData). RanTo base room s answers (left_of kept.store)) (sym (append-nil said))
-    (ran_to files base room said answers kept finds r)
+ran_on : (files : Option Files) (found : FoundData) (said : List LineData) (answers : List AnswerData)
+    (kept : KeptData) → Finds files found → RunsTo found said answers kept
+    → RanTo found (said ++ []) answers (left_of kept.store)
+ran_on files found said answers kept finds r =
+    subst (λ (s : List LineData). RanTo found s answers (left_of kept.store)) (sym (append-nil said))
+    (ran_to files found said answers kept finds r)
 
 module _ (files : Option Files) (l0 l1 l2 t0 t1 : Option (List ℕ)) (old new : Reading) (kept : KeptData)
     (g : GoesOn files l0 l1 t0 t1 old kept) where
@@ -243,7 +244,7 @@ module _ (files : Option Files) (l0 l1 l2 t0 t1 : Option (List ℕ)) (old new : 
       said = g.said ++ [];
       stop = stop;
       reads = m.reads;
-      run = λ base room finds. ran_on files base room g.said g.answers kept finds (g.run base room finds);
+      run = λ found finds. ran_on files found g.said g.answers kept finds (g.run found finds);
       output = answers_text g.answers;
       unprinted = [];
       gave = g.gave;
@@ -286,14 +287,14 @@ module _ (files : Option Files) (l0 l1 l2 t0 t1 : Option (List ℕ)) (old new : 
 -- ---- after a line
 
 -- the run with one line more
-runs_on : (base : BaseData) (room : ℕ) (said : List LineData) (answers : List AnswerData) (kept : KeptData)
-    (line : LineData) (answer : AnswerData) (next : KeptData) → RunsTo base room said answers kept
-    → IsStepped kept line answer next → RunsTo base room (said ++ line ∷ []) (answers ++ answer ∷ []) next
-runs_on base room said answers kept line answer next r stepped =
+runs_on : (found : FoundData) (said : List LineData) (answers : List AnswerData) (kept : KeptData)
+    (line : LineData) (answer : AnswerData) (next : KeptData) → RunsTo found said answers kept
+    → IsStepped kept line answer next → RunsTo found (said ++ line ∷ []) (answers ++ answer ∷ []) next
+runs_on found said answers kept line answer next r stepped =
     let s = stepped.steps r.now r.keeps in
     record {
       now = s.0;
-      run = Run-then (run_start base (Some room)) r.now s.0 said line answers answer r.run s.1;
+      run = Run-then (run_start found) r.now s.0 said line answers answer r.run s.1;
       keeps = s.2;
     }
 
@@ -341,8 +342,8 @@ module _ (files : Option Files) (l0 l1 l2 t0 t1 t2 : Option (List ℕ)) (old new
         said = g.said ++ line_of line ∷ [];
         reads = m.reads;
         answers = g.answers ++ a.answer ∷ [];
-        run = λ base room finds.
-            runs_on base room g.said g.answers kept (line_of line) a.answer next (g.run base room finds) a.stepped;
+        run = λ found finds.
+            runs_on found g.said g.answers kept (line_of line) a.answer next (g.run found finds) a.stepped;
         fault_told = told_on (λ x. IsTrue (tells_fault x)) g.answers a.answer a.stepped.failed_stays
             a.stepped.fault_told g.fault_told;
         halted_told = λ at. told_on (λ x. TellsHalted at x) g.answers a.answer (a.stepped.halted_stays at)
@@ -369,8 +370,8 @@ module _ (files : Option Files) (l0 l1 l2 t0 t1 t2 : Option (List ℕ)) (old new
           said = g.said ++ line_of line ∷ [];
           stop = at_end;
           reads = m.reads;
-          run = λ base room finds. ran_to files base room _ _ next finds
-              (runs_on base room g.said g.answers kept (line_of line) a.answer next (g.run base room finds) a.stepped);
+          run = λ found finds. ran_to files found _ _ next finds
+              (runs_on found g.said g.answers kept (line_of line) a.answer next (g.run found finds) a.stepped);
           output = answers_text g.answers ++ a.output;
           unprinted = a.unprinted;
           gave = gave_more t0 t1 t2 (answers_text g.answers) a.output g.gave a.gave;
@@ -401,16 +402,16 @@ module _ (files : Option Files) (l0 l1 l2 t0 t1 t2 : Option (List ℕ)) (old new
 -- ---- the start
 
 -- what is kept where an opening found this base, and nothing has been done yet
-pub record IsBegun (base : BaseData) (room : ℕ) (kept : KeptData) : Type 0 where
-  pub started : IsStarted base room kept.store.state
+pub record IsBegun (found : FoundData) (kept : KeptData) : Type 0 where
+  pub started : IsStarted found kept.store.state
   pub fresh : IsFresh kept.store.state
   pub first : kept.store.earlier ≡ []
   pub none_failed : kept.store.failed ≡ []
   pub sessions : kept.sessions ≡ replicate MAX_SESSIONS closed
 
-begun_keeps : (base : BaseData) (room : ℕ) (kept : KeptData) → IsBegun base room kept
-    → Keeps kept (run_start base (Some room))
-begun_keeps base room kept begun = record {
+begun_keeps : (found : FoundData) (kept : KeptData) → IsBegun found kept
+    → Keeps kept (run_start found)
+begun_keeps found kept begun = record {
   sound = begun.started.sound;
   base = begun.started.base_is;
   feed = begun.fresh.feed;
@@ -423,12 +424,12 @@ begun_keeps base room kept begun = record {
 }
 
 module _ (files : Option Files) (left taken : Option (List ℕ)) (kept : KeptData)
-    (begun : (base : BaseData) (room : ℕ) → Finds files base room → IsBegun base room kept) where
-  runs_none : (base : BaseData) (room : ℕ) → Finds files base room → RunsTo base room [] [] kept
-  runs_none base room finds = record {
-    now = run_start base (Some room);
+    (begun : (found : FoundData) → Finds files found → IsBegun found kept) where
+  runs_none : (found : FoundData) → Finds files found → RunsTo found [] [] kept
+  runs_none found finds = record {
+    now = run_start found;
     run = refl;
-    keeps = begun_keeps base room kept (begun base room finds);
+    keeps = begun_keeps found kept (begun found finds);
   }
 
   none_told : {T : Type 0} (P : AnswerData → Type 0) → Any P [] → T
@@ -454,7 +455,7 @@ module _ (files : Option Files) (left taken : Option (List ℕ)) (kept : KeptDat
         gave = gave_nothing taken;
       })
 
-  -- before anything is read memory may be wanting
+  -- before anything is read memory may run out
   pub not_begun : HasEnded files left left taken taken 2 kept.store
   not_begun = record {
     answers = [];
@@ -469,7 +470,7 @@ module _ (files : Option Files) (left taken : Option (List ℕ)) (kept : KeptDat
       said = [];
       stop = at_end;
       reads = (refl, refl);
-      run = λ base room finds. ran_to files base room [] [] kept finds (runs_none base room finds);
+      run = λ found finds. ran_to files found [] [] kept finds (runs_none found finds);
       output = [];
       unprinted = [];
       gave = gave_nothing taken;

@@ -1,6 +1,6 @@
 -- What a script over a volume comes to.
 use Rattle.std.proofs.Common.{◌≡◌, ◌⊎◌, ◌↔◌, ℕ, ◌≤◌, Bool, List, [], ◌++◌, Option, Some, None, IfSome, IsSome}
-use Rattle.std.proofs.Common.{sym, ap, ap₂, ◌∙◌, subst, inl, inr, IsTrue, arith}
+use Rattle.std.proofs.Common.{◌<◌, refl, sym, ap, ap₂, ◌∙◌, subst, inl, inr, IsTrue, arith}
 use Rattle.std.specs.Prelude.{unwrap_or}
 use Rattle.ori_bytes.specs.declared.causes.Causes.{Causes}
 use Rattle.ori_volume.specs.Causes.{Rose}
@@ -10,6 +10,7 @@ use Rattle.ori_volume.proofs.Known.{tells_refl, some_always}
 use Rattle.ori_volume.specs.Streams.{Took}
 use Rattle.ori_spec_data.specs.Base.{BaseData, initial_base, EntryData}
 use Rattle.ori_spec_data.specs.Keeping.{StateData, OpeningData}
+use Rattle.ori_spec_data.specs.Limits.{FoundData}
 use Rattle.ori_spec_texts.specs.Line.{LineData, StopData, at_end, Gives, Reads, IsValid}
 use Rattle.ori_spec_texts.specs.Reply.{AnswerData}
 use Rattle.ori_spec_texts.proofs.OneReading.{valid_reads_on}
@@ -28,11 +29,11 @@ use Rattle.ori_script.specs.Reports.{ReportsOn}
 
 -- ---- what is opened
 
-database_of : (files : Files) (base : BaseData) (room : ℕ) → IsFound files base room → IsDatabase (files_data files)
-database_of files base room found =
-    elim found.opens.stands [
+database_of : (files : Files) (found : FoundData) → IsFound files found → IsDatabase (files_data files)
+database_of files found finds =
+    elim finds.opens.stands [
       | inl unmade ↦ inl unmade.0
-      | inr made ↦ inr (made.0, base, made.1)
+      | inr made ↦ inr (made.0, found.base, made.1)
     ]
 
 -- ---- crashes
@@ -98,8 +99,15 @@ left_is state causes was_empty report on =
     ap₂ (λ (h : List EntryData) (d : Option EntryData). made h [] d) past on.doubt
     ∙ ap (λ (f : List (ℕ × EntryData)). made report.history f report.doubt) (sym on.none_decided)
 
+-- where one was answered a fault, commits have ended
+has_ended : (halted : Option ℕ) (faults : ℕ) → (halted ≡ None → faults ≡ 0) → IsSome halted ⊎ (0 < faults)
+    → IsSome halted
+has_ended halted faults none (inl over) = over
+has_ended (Some at) faults none (inr some) = refl
+has_ended None faults none (inr some) = let zero = none refl in absurd (omega (arith, zero, some))
+
 module _ (old new : OutsideData) (status : ℕ) (report : ReportData) (first state : StateData) (causes : Causes)
-    (was_empty : Bool) (found : (base : BaseData) (room : ℕ) → Finds old.files base room → IsStarted base room first)
+    (was_empty : Bool) (starts : (found : FoundData) → Finds old.files found → IsStarted found first)
     (on : ReportsOn state was_empty report) (since : IsOpenedSince old.faults old.log_faults first.opening)
     (same : state.opening ≡ first.opening) (counts : IsCounted state causes new.faults new.log_faults) where
   abbrev Ended : Type 0
@@ -134,8 +142,9 @@ module _ (old new : OutsideData) (status : ℕ) (report : ReportData) (first sta
     run = subst (λ (l : LeftData). IsRun old.files old.left new.left old.taken new.taken status ended.answers l)
         (left_is state causes was_empty report on) ended.run;
     fault_told = λ told. failed_rose (ended.fault_told told);
+    fault_ends = λ told. has_ended state.halted causes.fault counts.faultless (ended.fault_told told);
     halted_told = ended.halted_told;
-    emptiness = λ base room finds. (let same = some_same base initial_base first.base (found base room finds).base_is in
+    emptiness = λ found finds. (let same = some_same found.base initial_base first.base (starts found finds).base_is in
         let is : IsTrue report.was_empty ↔ IsTrue was_empty = emptied on.emptiness in
         (λ t. same.0 (empty.0 (is.0 t)), λ e. is.1 (empty.1 (same.1 e))));
     none_decided = on.none_decided;
@@ -211,12 +220,12 @@ run_completes old new status answers left run source sink fine =
     (λ three. fine.source (source three)) (λ four. fine.sink (sink four)) run.ends
 
 -- the volume opens
-opens_well : (told : Option Files) (base : BaseData) (room : ℕ) → Finds told base room
+opens_well : (told : Option Files) (found : FoundData) → Finds told found
     → IfSome told (λ fs. IsDatabase (files_data fs) → ⊥) → ⊥
-opens_well None base room finds none = finds
-opens_well (Some files) base room finds none = none (database_of files base room finds)
+opens_well None found finds none = finds
+opens_well (Some files) found finds none = none (database_of files found finds)
 
--- An opening over a volume that opens fails without a fault only where memory is wanting.
+-- An opening over a volume that opens fails without a fault only where memory runs out.
 pub start_completes : (old new : OutsideData) (status : ℕ) → (status ≡ 2) ⊎ (status ≡ 5) ⊎ (status ≡ 6)
     → (status ≡ 5 → Rose old.faults new.faults)
     → (status ≡ 6 → IfSome old.files (λ fs. IsDatabase (files_data fs) → ⊥)) → IsFaultless old new
@@ -226,7 +235,7 @@ start_completes old new status why volume form fine =
       | inl two ↦ inr two
       | inr other ↦ elim other [
         | inl five ↦ absurd (fine.volume (volume five))
-        | inr six ↦ absurd (opens_well old.files fine.base fine.room fine.finds (form six))
+        | inr six ↦ absurd (opens_well old.files fine.found fine.finds (form six))
       ]
     ]
 

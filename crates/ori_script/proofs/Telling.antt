@@ -9,17 +9,15 @@ use Rattle.ori_bytes.specs.declared.rid.Rid.{Rid}
 use Rattle.ori_bytes.specs.declared.causes.Causes.{Causes}
 use Rattle.ori_bytes.specs.declared.limits.TheConstants.{MAX_PAGES, MAX_POSITIONS, MAX_WEIGHT, MAX_FEED_BYTES}
 use Rattle.ori_volume.proofs.Known.{some_told}
-use Rattle.ori_spec_data.specs.Base.{BaseData, ChangeData, TxData, EntryData, commit}
-use Rattle.ori_spec_data.specs.Base.{AskedData, asks_commit, asks_define}
-use Rattle.ori_spec_data.specs.Apply.{fresh, apply, apply_tx, IsFormed}
-use Rattle.ori_spec_data.specs.Weighing.{log_need}
-use Rattle.ori_spec_data.specs.Refusing.{refusal}
+use Rattle.ori_spec_data.specs.Base.{BaseData, ChangeData, TxData, EntryData, AskedData, asks_commit, asks_define}
+use Rattle.ori_spec_data.specs.Base.{asked_in, entry_by}
+use Rattle.ori_spec_data.specs.Apply.{apply}
+use Rattle.ori_spec_data.specs.Asked.{IsAskable, refusal_of, fresh_by, entry_on}
+use Rattle.ori_spec_data.specs.Limits.{asked_need, need_told, room_after, limit_after}
 use Rattle.ori_spec_data.specs.Soundness.{IsSoundBase}
 use Rattle.ori_spec_data.specs.Keeping.{StateData, DecisionData, accepted, halted_at, feed_full, refused, pages_full}
 use Rattle.ori_spec_data.specs.Keeping.{log_full, fault, device, busy, damaged, no_memory, counted, bytes_with, IsFull}
-use Rattle.ori_spec_data.specs.Keeping.{IsAsked, IsGranted, AreFresh, left_after, Joins, Breaks}
-use Rattle.ori_spec_data.specs.Keeping.{DecidesCommit}
-use Rattle.ori_spec_data.specs.Keeping.{Decides}
+use Rattle.ori_spec_data.specs.Keeping.{IsAsked, IsGranted, AreFresh, Joins, Breaks, Decides}
 use Rattle.ori_spec_data.specs.Replies as replies
 use Rattle.ori_spec_data.specs.Replies.{RefusalData, ReplyData, is_fault, is_fault_refusal}
 use Rattle.ori_spec_data.specs.Views.{ViewData, view_of, are_real}
@@ -33,16 +31,17 @@ use Rattle.ori_spec_runs.specs.Answer.{whole}
 use Rattle.ori_spec_runs.specs.Answer.{schema, asked_by, MeaningData, answered, turned, pending, alone, changed}
 use Rattle.ori_spec_runs.specs.Answer.{changes_by, view_in, made_in, begun, ended_by, ended, rolled_back, meaning}
 use Rattle.ori_spec_runs.specs.Run as runs
-use Rattle.ori_spec_runs.specs.Run.{RunData, session_of, with_session, left_by, feed_cause, cause, reply_on, entry_on}
+use Rattle.ori_spec_runs.specs.Run.{RunData, session_of, with_session, left_by, cause, reply_on}
 use Rattle.ori_spec_runs.specs.Run.{Replies, TellsOrNot, Step}
 use Rattle.ori_model.specs.declared.reply.Reply.{Reply}
 use Rattle.ori_model.specs.Replies.{reply_of}
 use Rattle.ori_session.specs.Reads.{WhereReal, IsUnbuilt, IsReadFault}
-use Rattle.ori_session.specs.Commits.{reply_by, stays, left_open, IsAskable, AnswersOn, entry_by}
+use Rattle.ori_session.specs.Commits.{reply_by, stays, left_open, AnswersOn}
 use Rattle.ori_session.specs.Runs.{IsAnswer, Executes}
 use Rattle.ori_engine.specs.Openings.{IsKeptState}
 use Rattle.ori_script.specs.Keeping.{StoreData, KeptData, Keeps, HasFailed, IsStepped}
-use Rattle.ori_script.proofs.Causes.{full_feed, free_feed, IsFree, by_halt, by_feed, by_refusal, by_log, by_none}
+use Rattle.ori_script.proofs.Causes.{full_feed, free_feed, need_is, within, asked_back, IsFree, by_halt, by_feed}
+use Rattle.ori_script.proofs.Causes.{by_refusal, by_log, by_none}
 use Rattle.ori_script.proofs.Counted.{IsInside, no_device, no_busy, no_damaged, only_memory, fault_counted}
 use Rattle.ori_script.proofs.Counted.{faults_kept, faults_read}
 use Rattle.ori_script.proofs.Runs.{only}
@@ -141,6 +140,12 @@ never_full state causes base n heavy known is sound used light full =
     first_next [] h = omega arith
     first_next (m ∷ ms) h = h.0
 
+-- an entry that can be asked and isn't refused keeps a base sound
+sound_on : (base : BaseData) (session : ℕ) (asked : AskedData) → IsSoundBase base → IsAskable asked
+    → refusal_of base asked ≡ None → IsSoundBase (apply base (entry_on base session asked))
+sound_on base session (asks_commit tx) sound formed free = apply_sound base tx sound formed free
+sound_on base session (asks_define definition) sound none free = absurd none
+
 -- ---- what is decided by a commit
 
 module _ (earlier : List EntryData) (failed : List (ℕ × EntryData)) (view : Option ViewData) (old new : StateData)
@@ -152,9 +157,9 @@ module _ (earlier : List EntryData) (failed : List (ℕ × EntryData)) (view : O
   abbrev After : KeptData
   After = kept_as earlier failed new causes_new cur'
 
-  abbrev Decided : PendingData → AskedData → Type 0
-  Decided p asked = (next : RunData)
-      × (runs.DecidesAsked run session p asked reply next
+  abbrev Decided : PendingData → Type 0
+  Decided p = (next : RunData)
+      × (runs.Decides run session p reply next
       ⊎ ((reply ≡ replies.refused replies.no_memory) × (next ≡ run)))
       × Keeps After next
 
@@ -162,77 +167,109 @@ module _ (earlier : List EntryData) (failed : List (ℕ × EntryData)) (view : O
   front_is = known.front_is ∙ ap (λ (feed : List EntryData). length feed) (some_is (sym known.feed_is ∙ k.feed))
 
   -- all is as before
-  wants : (p : PendingData) (asked : AskedData) → reply ≡ replies.refused replies.no_memory → new ≡ old → cur' ≡ cur
-      → Decided p asked
-  wants p asked told same now = (
+  wants : (p : PendingData) → reply ≡ replies.refused replies.no_memory → new ≡ old → cur' ≡ cur → Decided p
+  wants p told same now = (
     run,
     inr (told, refl),
     keeps_with earlier failed old new causes_old causes_new cur cur' run.sessions run k same
         (now ∙ k.sessions),
   )
 
-  module _ (p : PendingData) (tx : TxData) (formed : IsFormed tx) where
+  module _ (p : PendingData) (askable : IsAskable (asked_by p)) where
+    abbrev asked : AskedData
+    asked = asked_by p
+
     -- nothing stands against it so far
-    free : IsAsked old tx → IsFree run tx
+    free : IsAsked old asked → IsFree run asked
     free h =
         let front = front_is in
-        let bytes = some_told (λ (feed : List EntryData). bytes_with feed tx ≤ MAX_FEED_BYTES) old.feed run.feed k.feed
-        h.bytes in
+        let bytes = some_told (λ (feed : List EntryData). bytes_with feed asked ≤ MAX_FEED_BYTES) old.feed run.feed
+        k.feed h.bytes in
         record {
           going = sym k.halted ∙ h.running;
-          feed = free_feed run.feed tx (omega (arith, front, h.entries)) bytes;
+          feed = free_feed run.feed asked (omega (arith, front, h.entries)) bytes;
         }
 
-    allowed : IfSome old.base (λ base. refusal base tx ≡ None) → refusal run.base tx ≡ None
-    allowed h = some_told (λ (base : BaseData). refusal base tx ≡ None) old.base run.base k.base h
+    allowed : IfSome old.base (λ base. refusal_of base asked ≡ None) → refusal_of run.base asked ≡ None
+    allowed h = some_told (λ (base : BaseData). refusal_of base asked ≡ None) old.base run.base k.base h
+
+    -- nothing stands against it
+    granted_so : IsGranted old asked → cause run asked ≡ None
+    granted_so granted =
+        by_none run asked (free granted.allowed.asked_is) (allowed granted.allowed.allowed)
+        (subst (λ (o : Option ℕ). IfSome o (λ n. asked_need run.base asked ≤ n)) k.limit
+        (within old.limit old.base run.base asked k.base granted.room))
+
+    abbrev entry : EntryData
+    entry = entry_on run.base session asked
+
+    -- the entry has the identifiers that the run's base gives
+    made_so : (rids : List Rid) → AreFresh old asked rids → rids ≡ fresh_by run.base asked
+    made_so rids are_fresh =
+        some_told (λ (base : BaseData). rids ≡ fresh_by base asked) old.base run.base k.base are_fresh.1
 
     -- it is refused, and the transaction has ended
-    refuse : (why : RefusalData) → cause run tx ≡ Some why → reply ≡ replies.refused why → new ≡ old
-        → cur' ≡ (left_by run session p).sessions → Decided p (asks_commit tx)
+    refuse : (why : RefusalData) → cause run asked ≡ Some why → reply ≡ replies.refused why → new ≡ old
+        → cur' ≡ (left_by run session p).sessions → Decided p
     refuse why caused told same now =
         let kept = keeps_left earlier failed old causes_old causes_new cur cur' run session p k now in (
           left_by run session p,
-          inl (subst (λ (c : Option RefusalData). runs.DecidesBy run session p tx c reply (left_by run session p))
-              (sym caused) (told, refl)),
+          inl (
+            askable,
+            subst (λ (c : Option RefusalData). runs.DecidesBy run session p c reply (left_by run session p))
+                (sym caused) (told, refl),
+          ),
           subst (λ (s : StateData). Keeps (kept_as earlier failed s causes_new cur') (left_by run session p)) (sym same)
               kept,
         )
 
+    -- what is left of the log's room
+    limit_joined : (rids : List Rid) → Joins old (entry_by session asked rids) new
+        → new.limit ≡ limit_after run.base asked run.limit
+    limit_joined rids joins =
+        some_told (λ (need : ℕ). new.limit ≡ option_map (room_after need) old.limit)
+        (need_told old.base (asked_in (entry_by session asked rids))) (asked_need run.base asked)
+        (ap (λ (a : AskedData). need_told old.base a) (asked_back session asked rids)
+        ∙ need_is old.base run.base asked k.base) joins.limit
+        ∙ ap (λ (o : Option ℕ). option_map (room_after (asked_need run.base asked)) o) k.limit
+
     -- it joins the history
-    accept : (rids : List Rid) → IsGranted old tx → AreFresh old tx rids → Joins old (commit session tx rids) new
-        → IfSome old.base (λ base. IsSoundBase base → reply ≡ reply_on (apply_tx base tx) rids p)
-        → cur' ≡ (left_by run session p).sessions → Decided p (asks_commit tx)
+    accept : (rids : List Rid) → IsGranted old asked → AreFresh old asked rids
+        → Joins old (entry_by session asked rids) new
+        → IfSome old.base (λ base. IsSoundBase base
+        → reply ≡ reply_on (apply base (entry_by session asked rids)) rids p)
+        → cur' ≡ (left_by run session p).sessions → Decided p
     accept rids granted are_fresh joins on_base now =
-        let unrefused = allowed granted.allowed.allowed in
-        let fits : IfSome run.limit (λ n. log_need tx ≤ n) =
-        subst (λ (o : Option ℕ). IfSome o (λ n. log_need tx ≤ n)) k.limit granted.room in
-        let named : rids ≡ fresh run.base tx =
-        some_told (λ (base : BaseData). rids ≡ fresh base tx) old.base run.base k.base are_fresh.1 in
-        let answers : reply ≡ reply_on (apply_tx run.base tx) rids p =
-        some_told (λ (base : BaseData). IsSoundBase base → reply ≡ reply_on (apply_tx base tx) rids p) old.base run.base
-        k.base on_base k.sound in
+        let named : rids ≡ fresh_by run.base asked = made_so rids are_fresh in
+        let answers : reply ≡ reply_on (apply run.base (entry_by session asked rids)) rids p =
+        some_told (λ (base : BaseData). IsSoundBase base
+        → reply ≡ reply_on (apply base (entry_by session asked rids)) rids p) old.base run.base k.base on_base
+        k.sound in
         let kept = keeps_left earlier failed old causes_old causes_new cur cur' run session p k now in
-        let entry : EntryData = entry_on run.base session tx in
-        let made : commit session tx rids ≡ entry = ap (λ (ids : List Rid). commit session tx ids) named in
+        let made : entry_by session asked rids ≡ entry = ap (λ (ids : List Rid). entry_by session asked ids) named in
         let next : RunData = record (left_by run session p) {
           base = apply run.base entry;
           history = run.history ++ entry ∷ [];
           feed = run.feed ++ entry ∷ [];
-          limit = option_map (left_after entry) run.limit;
+          limit = limit_after run.base asked run.limit;
         } in (
           next,
-          inl (subst (λ (c : Option RefusalData). runs.DecidesBy run session p tx c reply next)
-              (sym (by_none run tx (free granted.allowed.asked) unrefused fits))
-              (inl (record {
-                reply_is = answers ∙ ap (λ (ids : List Rid). reply_on (apply_tx run.base tx) ids p) named;
-                new_is = refl;
-              }))),
+          inl (
+            askable,
+            subst (λ (c : Option RefusalData). runs.DecidesBy run session p c reply next) (sym (granted_so granted))
+                (inl (record {
+                  reply_is = answers
+                      ∙ ap (λ (ids : List Rid). reply_on (apply run.base (entry_by session asked ids)) ids p) named;
+                  new_is = refl;
+                })),
+          ),
           record {
-            sound = apply_sound run.base tx k.sound formed unrefused;
+            sound = sound_on run.base session asked k.sound askable (allowed granted.allowed.allowed);
             base = joins.base
-                ∙ ap (λ (o : Option BaseData). option_map (λ b. apply b (commit session tx rids)) o) k.base;
+                ∙ ap (λ (o : Option BaseData). option_map (λ b. apply b (entry_by session asked rids)) o) k.base
+                ∙ ap (λ (e : EntryData). Some (apply run.base e)) made;
             feed = joins.feed
-                ∙ ap (λ (o : Option (List EntryData)). option_map (λ feed. feed ++ commit session tx rids ∷ []) o)
+                ∙ ap (λ (o : Option (List EntryData)). option_map (λ feed. feed ++ entry_by session asked rids ∷ []) o)
                 k.feed
                 ∙ ap (λ (e : EntryData). Some (run.feed ++ e ∷ [])) made;
             history = ap (λ (h : List EntryData). h ++ entry ∷ []) k.history
@@ -240,41 +277,39 @@ module _ (earlier : List EntryData) (failed : List (ℕ × EntryData)) (view : O
             failed = kept.failed;
             halted = joins.halted ∙ kept.halted;
             doubt = joins.doubt ∙ kept.doubt;
-            limit = joins.limit ∙ ap₂ (λ (e : EntryData) (o : Option ℕ). option_map (left_after e) o) made k.limit;
+            limit = limit_joined rids joins;
             sessions = now;
           },
         )
 
     -- its write failed
-    fails : IsGranted old tx → Breaks old session tx new → reply ≡ replies.refused replies.fault
-        → cur' ≡ (left_by run session p).sessions → Decided p (asks_commit tx)
-    fails granted breaks told now =
-        let unrefused = allowed granted.allowed.allowed in
-        let fits : IfSome run.limit (λ n. log_need tx ≤ n) =
-        subst (λ (o : Option ℕ). IfSome o (λ n. log_need tx ≤ n)) k.limit granted.room in
-        let entry : EntryData = entry_on run.base session tx in
+    fails : (rids : List Rid) → IsGranted old asked → AreFresh old asked rids
+        → Breaks old (entry_by session asked rids) new → reply ≡ replies.refused replies.fault
+        → cur' ≡ (left_by run session p).sessions → Decided p
+    fails rids granted are_fresh breaks told now =
+        let made : entry_by session asked rids ≡ entry =
+        ap (λ (ids : List Rid). entry_by session asked ids) (made_so rids are_fresh) in
         let kept = keeps_left earlier failed old causes_old causes_new cur cur' run session p k now in
         let same = breaks.same in
         let next : RunData = record (left_by run session p) { halted = new.halted; doubt = new.doubt } in
-        let doubt : (new.doubt ≡ run.doubt) ⊎ ((new.doubt ≡ Some entry) × IsSome new.halted) =
+        let doubt : ((new.doubt ≡ run.doubt) × (new.halted ≡ run.halted))
+        ⊎ ((new.doubt ≡ Some entry) × IsSome new.halted) =
         elim breaks.doubt [
-          | inl still ↦ inl (still ∙ k.doubt)
-          | inr own ↦ inr (
-            own.2 ∙ ap (λ (ids : List Rid). Some (commit session tx ids))
-                (some_told (λ (base : BaseData). own.0 ≡ fresh base tx) old.base run.base k.base own.1.1),
-            own.3,
-          )
+          | inl still ↦ inl (still.0 ∙ k.doubt, still.1 ∙ k.halted)
+          | inr own ↦ inr (own.0 ∙ ap (λ (e : EntryData). Some e) made, own.1)
         ] in (
           next,
-          inl (subst (λ (c : Option RefusalData). runs.DecidesBy run session p tx c reply next)
-              (sym (by_none run tx (free granted.allowed.asked) unrefused fits))
-              (inr (record {
-                reply_is = told;
-                halted_by = new.halted;
-                left_open = new.doubt;
-                new_is = refl;
-                doubt_is = doubt;
-              }))),
+          inl (
+            askable,
+            subst (λ (c : Option RefusalData). runs.DecidesBy run session p c reply next) (sym (granted_so granted))
+                (inr (record {
+                  reply_is = told;
+                  halted_by = new.halted;
+                  left_open = new.doubt;
+                  new_is = refl;
+                  doubt_is = doubt;
+                })),
+          ),
           record {
             sound = kept.sound;
             base = ap (λ (s : StateData). s.base) same ∙ kept.base;
@@ -288,59 +323,49 @@ module _ (earlier : List EntryData) (failed : List (ℕ × EntryData)) (view : O
           },
         )
 
-    decide : (d : DecisionData) → DecidesCommit old session tx d new → reply ≡ reply_by d p
-        → causes_new ≡ counted d causes_old
-        → ((place : ℕ) (rids : List Rid) → d ≡ accepted place rids
-        → IfSome old.base (λ base. IsSoundBase base → reply ≡ reply_on (apply_tx base tx) rids p))
-        → left ≡ left_open (get_or cur (session - 1) closed) p d → Decided p (asks_commit tx)
+    decide : (d : DecisionData) → Decides old session asked d new → reply ≡ reply_by d p
+        → causes_new ≡ counted d causes_old → AnswersOn old session p d reply
+        → left ≡ left_open (get_or cur (session - 1) closed) p d → Decided p
     decide (accepted place rids) h told causes on_base opens =
-        accept rids h.0 h.2 h.3 (on_base place rids refl)
+        accept rids h.0 h.2 h.3 on_base
         (left_is cur cur' session (accepted place rids) left is p run refl opens k.sessions)
     decide (halted_at at) h told causes on_base opens =
-        refuse (replies.halted at) (by_halt run tx at (sym k.halted ∙ h.0)) told h.1
+        refuse (replies.halted at) (by_halt run asked at (sym k.halted ∙ h.0)) told h.1
         (left_is cur cur' session (halted_at at) left is p run refl opens k.sessions)
     decide (feed_full entries bytes) h told causes on_base opens =
         let entries_are : entries ≡ length run.feed = h.1 ∙ front_is in
-        let bytes_are : bytes ≡ bytes_with run.feed tx =
-        some_told (λ (feed : List EntryData). bytes ≡ bytes_with feed tx) old.feed run.feed k.feed h.3 in
-        let full : IsFull (length run.feed) (bytes_with run.feed tx) =
-        subst (λ (n : ℕ). IsFull n (bytes_with run.feed tx)) entries_are
+        let bytes_are : bytes ≡ bytes_with run.feed asked =
+        some_told (λ (feed : List EntryData). bytes ≡ bytes_with feed asked) old.feed run.feed k.feed h.3 in
+        let full : IsFull (length run.feed) (bytes_with run.feed asked) =
+        subst (λ (n : ℕ). IsFull n (bytes_with run.feed asked)) entries_are
         (subst (λ (n : ℕ). IsFull entries n) bytes_are h.2) in
-        refuse (replies.feed_full (length run.feed) (bytes_with run.feed tx))
-        (by_feed run tx _ (sym k.halted ∙ h.0) (full_feed run.feed tx full))
+        refuse (replies.feed_full (length run.feed) (bytes_with run.feed asked))
+        (by_feed run asked _ (sym k.halted ∙ h.0) (full_feed run.feed asked full))
         (told ∙ ap₂ (λ (n m : ℕ). replies.refused (replies.feed_full n m)) entries_are bytes_are) h.4
         (left_is cur cur' session (feed_full entries bytes) left is p run refl opens k.sessions)
     decide (refused why) h told causes on_base opens =
-        let refuses = some_told (λ (base : BaseData). refusal base tx ≡ Some why) old.base run.base k.base h.1 in
-        refuse (replies.by_base why) (by_refusal run tx why (free h.0) refuses) told h.3
+        let refuses = some_told (λ (base : BaseData). refusal_of base asked ≡ Some why) old.base run.base k.base h.1 in
+        refuse (replies.by_base why) (by_refusal run asked why (free h.0) refuses) told h.3
         (left_is cur cur' session (refused why) left is p run refl opens k.sessions)
     decide (pages_full n heavy) h told causes on_base opens =
         absurd (never_full old causes_old run.base n heavy known k.base k.sound h.2 h.3 h.4)
     decide (log_full need room) h told causes on_base opens =
         let limited : run.limit ≡ Some room =
         sym k.limit ∙ some_told (λ (base : BaseData). old.limit ≡ Some room) old.base run.base k.base h.2 in
-        refuse (replies.log_full (log_need tx) room)
-        (by_log run tx room (free h.0.asked) (allowed h.0.allowed) limited (omega (arith, h.1, h.4)))
-        (told ∙ ap (λ (n : ℕ). replies.refused (replies.log_full n room)) h.1) h.5
+        let needed : need ≡ asked_need run.base asked =
+        some_told (λ (n : ℕ). need ≡ n) (need_told old.base asked) (asked_need run.base asked)
+        (need_is old.base run.base asked k.base) h.1 in
+        refuse (replies.log_full (asked_need run.base asked) room)
+        (by_log run asked room (free h.0.asked_is) (allowed h.0.allowed) limited (omega (arith, needed, h.4)))
+        (told ∙ ap (λ (n : ℕ). replies.refused (replies.log_full n room)) needed) h.5
         (left_is cur cur' session (log_full need room) left is p run refl opens k.sessions)
     decide fault h told causes on_base opens =
-        fails h.0 h.1 told (left_is cur cur' session fault left is p run refl opens k.sessions)
+        fails h.1.0 h.0 h.1.1 h.1.2 told (left_is cur cur' session fault left is p run refl opens k.sessions)
     decide device h told causes on_base opens = absurd (no_device causes_old causes_new inside causes)
     decide (busy turn) h told causes on_base opens = absurd (no_busy causes_old causes_new inside causes)
     decide (damaged page) h told causes on_base opens = absurd (no_damaged causes_old causes_new inside causes)
     decide no_memory h told causes on_base opens =
-        wants p (asks_commit tx) told h (left_stays cur cur' session no_memory left is p refl opens)
-
-  decide_asked : (p : PendingData) (asked : AskedData) (d : DecisionData) → asked_by p ≡ asked → IsAskable asked
-      → Decides old session asked d new → reply ≡ reply_by d p → causes_new ≡ counted d causes_old
-      → AnswersOn old session p d reply → left ≡ left_open (get_or cur (session - 1) closed) p d → Decided p asked
-  decide_asked p (asks_commit tx) d asks formed h told causes on_base opens =
-      decide p tx formed d h told causes
-      (λ place rids same. subst (λ (a : AskedData). IfSome old.base (λ base. IsSoundBase base
-      → reply ≡ reply_on (apply base (entry_by session a rids)) rids p)) asks
-      (subst (λ (e : DecisionData). AnswersOn old session p e reply) same on_base))
-      opens
-  decide_asked p (asks_define definition) d asks formed h told causes on_base opens = absurd h
+        wants p told h (left_stays cur cur' session no_memory left is p refl opens)
 
   -- ---- a statement
 
@@ -405,7 +430,7 @@ module _ (earlier : List EntryData) (failed : List (ℕ × EntryData)) (view : O
 
   committed_so : (text : List ℕ) (s : StatementData) (p : PendingData) → IsStatement text s
       → WhereReal view (λ shown. meaning shown (get_or cur (session - 1) closed) s ≡ pending p)
-      → Decided p (asked_by p) → Told text
+      → Decided p → Told text
   committed_so text s p says meant done =
       let own = get_or cur (session - 1) closed in
       let is_pending = sym (in_run (λ shown. meaning shown own s ≡ pending p) meant) ∙ means s in (
@@ -519,75 +544,61 @@ module _ (earlier : List EntryData) (failed : List (ℕ × EntryData)) (old new 
   still same at was = same_halted same ∙ was
 
   module _ (session : ℕ) (p : PendingData) (reply : ReplyData) where
-    fine_decided : (tx : TxData) (d : DecisionData) → DecidesCommit old session tx d new
+    fine_decided : (asked : AskedData) (d : DecisionData) → Decides old session asked d new
         → causes_new ≡ counted d causes_old
         → reply ≡ reply_by d p → IsTrue (is_fault reply.told) → HasNow
-    fine_decided tx (accepted place rids) h causes told = λ fault.
+    fine_decided asked (accepted place rids) h causes told = λ fault.
         absurd (cc (ap (λ (r : ReplyData). is_fault r.told) told ∙ fine_given p place rids, fault))
-    fine_decided tx (halted_at at) h causes told = λ _.
+    fine_decided asked (halted_at at) h causes told = λ _.
         inl (subst (λ (o : Option ℕ). IsSome o) (sym (same_halted h.1 ∙ h.0)) refl)
-    fine_decided tx (feed_full entries bytes) h causes told = not_told reply (replies.feed_full entries bytes) told refl
-    fine_decided tx (refused why) h causes told = not_told reply (replies.by_base why) told refl
-    fine_decided tx (pages_full n heavy) h causes told = not_told reply (replies.pages_full n heavy) told refl
-    fine_decided tx (log_full need room) h causes told = not_told reply (replies.log_full need room) told refl
-    fine_decided tx fault h causes told = λ _. inr (fault_counted causes_old causes_new causes)
-    fine_decided tx device h causes told = absurd (no_device causes_old causes_new inside causes)
-    fine_decided tx (busy turn) h causes told = absurd (no_busy causes_old causes_new inside causes)
-    fine_decided tx (damaged page) h causes told = absurd (no_damaged causes_old causes_new inside causes)
-    fine_decided tx no_memory h causes told = not_told reply replies.no_memory told refl
+    fine_decided asked (feed_full entries bytes) h causes told =
+        not_told reply (replies.feed_full entries bytes) told refl
+    fine_decided asked (refused why) h causes told = not_told reply (replies.by_base why) told refl
+    fine_decided asked (pages_full n heavy) h causes told = not_told reply (replies.pages_full n heavy) told refl
+    fine_decided asked (log_full need room) h causes told = not_told reply (replies.log_full need room) told refl
+    fine_decided asked fault h causes told = λ _. inr (fault_counted causes_old causes_new causes)
+    fine_decided asked device h causes told = absurd (no_device causes_old causes_new inside causes)
+    fine_decided asked (busy turn) h causes told = absurd (no_busy causes_old causes_new inside causes)
+    fine_decided asked (damaged page) h causes told = absurd (no_damaged causes_old causes_new inside causes)
+    fine_decided asked no_memory h causes told = not_told reply replies.no_memory told refl
 
     -- only the decision that commits have ended is told so
-    halted_decided : (tx : TxData) (d : DecisionData) → DecidesCommit old session tx d new
+    halted_decided : (asked : AskedData) (d : DecisionData) → Decides old session asked d new
         → causes_new ≡ counted d causes_old
         → reply ≡ reply_by d p → (at : ℕ) → SaysHalted at reply → new.halted ≡ Some at
-    halted_decided tx (accepted place rids) h causes told at says =
+    halted_decided asked (accepted place rids) h causes told at says =
         absurd (cc (ap (λ (r : ReplyData). is_fault r.told) told ∙ fine_given p place rids, halted_fault at reply says))
-    halted_decided tx (halted_at n) h causes told at says =
+    halted_decided asked (halted_at n) h causes told at says =
         let is : n ≡ at = cc (told_is reply (replies.halted n) told, says) in
         same_halted h.1 ∙ h.0 ∙ ap (λ (m : ℕ). Some m) is
-    halted_decided tx (feed_full entries bytes) h causes told at says =
+    halted_decided asked (feed_full entries bytes) h causes told at says =
         not_told reply (replies.feed_full entries bytes) told refl (halted_fault at reply says)
-    halted_decided tx (refused why) h causes told at says =
+    halted_decided asked (refused why) h causes told at says =
         not_told reply (replies.by_base why) told refl (halted_fault at reply says)
-    halted_decided tx (pages_full n heavy) h causes told at says =
+    halted_decided asked (pages_full n heavy) h causes told at says =
         not_told reply (replies.pages_full n heavy) told refl (halted_fault at reply says)
-    halted_decided tx (log_full need room) h causes told at says =
+    halted_decided asked (log_full need room) h causes told at says =
         not_told reply (replies.log_full need room) told refl (halted_fault at reply says)
-    halted_decided tx fault h causes told at says = absurd (cc (told_is reply replies.fault told, says))
-    halted_decided tx device h causes told at says = absurd (no_device causes_old causes_new inside causes)
-    halted_decided tx (busy turn) h causes told at says = absurd (no_busy causes_old causes_new inside causes)
-    halted_decided tx (damaged page) h causes told at says = absurd (no_damaged causes_old causes_new inside causes)
-    halted_decided tx no_memory h causes told at says =
+    halted_decided asked fault h causes told at says = absurd (cc (told_is reply replies.fault told, says))
+    halted_decided asked device h causes told at says = absurd (no_device causes_old causes_new inside causes)
+    halted_decided asked (busy turn) h causes told at says = absurd (no_busy causes_old causes_new inside causes)
+    halted_decided asked (damaged page) h causes told at says = absurd (no_damaged causes_old causes_new inside causes)
+    halted_decided asked no_memory h causes told at says =
         not_told reply replies.no_memory told refl (halted_fault at reply says)
 
     -- a write is only tried where commits go on
-    stay_ended : (tx : TxData) (d : DecisionData) → DecidesCommit old session tx d new → StayEnded
-    stay_ended tx (accepted place rids) h = λ at was. h.3.halted ∙ was
-    stay_ended tx (halted_at n) h = still h.1
-    stay_ended tx (feed_full entries bytes) h = still h.4
-    stay_ended tx (refused why) h = still h.3
-    stay_ended tx (pages_full n heavy) h = still h.5
-    stay_ended tx (log_full need room) h = still h.5
-    stay_ended tx fault h = λ at was. absurd (cc (h.0.allowed.asked.running, was))
-    stay_ended tx device h = still h.1
-    stay_ended tx (busy turn) h = still h.2
-    stay_ended tx (damaged page) h = still h.2
-    stay_ended tx no_memory h = still h
-
-    asked_fine : (asked : AskedData) (d : DecisionData) → Decides old session asked d new
-        → causes_new ≡ counted d causes_old → reply ≡ reply_by d p → IsTrue (is_fault reply.told) → HasNow
-    asked_fine (asks_commit tx) d h causes told = fine_decided tx d h causes told
-    asked_fine (asks_define definition) d h causes told = absurd h
-
-    asked_halted : (asked : AskedData) (d : DecisionData) → Decides old session asked d new
-        → causes_new ≡ counted d causes_old → reply ≡ reply_by d p → (at : ℕ) → SaysHalted at reply
-        → new.halted ≡ Some at
-    asked_halted (asks_commit tx) d h causes told = halted_decided tx d h causes told
-    asked_halted (asks_define definition) d h causes told = absurd h
-
-    asked_stays : (asked : AskedData) (d : DecisionData) → Decides old session asked d new → StayEnded
-    asked_stays (asks_commit tx) d h = stay_ended tx d h
-    asked_stays (asks_define definition) d h = absurd h
+    stay_ended : (asked : AskedData) (d : DecisionData) → Decides old session asked d new → StayEnded
+    stay_ended asked (accepted place rids) h = λ at was. h.3.halted ∙ was
+    stay_ended asked (halted_at n) h = still h.1
+    stay_ended asked (feed_full entries bytes) h = still h.4
+    stay_ended asked (refused why) h = still h.3
+    stay_ended asked (pages_full n heavy) h = still h.5
+    stay_ended asked (log_full need room) h = still h.5
+    stay_ended asked fault h = λ at was. absurd (cc (h.0.allowed.asked_is.running, was))
+    stay_ended asked device h = still h.1
+    stay_ended asked (busy turn) h = still h.2
+    stay_ended asked (damaged page) h = still h.2
+    stay_ended asked no_memory h = still h
 
   refused_fine : (view : Option ViewData) (text : List ℕ) (reply : ReplyData)
       → (IsUnbuilt text reply × (causes_new ≡ causes_old)) ⊎ IsReadFault view causes_old causes_new reply
@@ -610,18 +621,17 @@ module _ (session : ℕ) (old new : StateData) where
   same_opening same = ap (λ (s : StateData). s.opening) same
 
   opening_decided : (asked : AskedData) (d : DecisionData) → Decides old session asked d new → new.opening ≡ old.opening
-  opening_decided (asks_commit tx) (accepted place rids) h = h.3.opening
-  opening_decided (asks_commit tx) (halted_at at) h = same_opening h.1
-  opening_decided (asks_commit tx) (feed_full entries bytes) h = same_opening h.4
-  opening_decided (asks_commit tx) (refused why) h = same_opening h.3
-  opening_decided (asks_commit tx) (pages_full n heavy) h = same_opening h.5
-  opening_decided (asks_commit tx) (log_full need room) h = same_opening h.5
-  opening_decided (asks_commit tx) fault h = ap (λ (s : StateData). s.opening) h.1.same
-  opening_decided (asks_commit tx) device h = same_opening h.1
-  opening_decided (asks_commit tx) (busy turn) h = same_opening h.2
-  opening_decided (asks_commit tx) (damaged page) h = same_opening h.2
-  opening_decided (asks_commit tx) no_memory h = same_opening h
-  opening_decided (asks_define definition) d h = absurd h
+  opening_decided asked (accepted place rids) h = h.3.opening
+  opening_decided asked (halted_at at) h = same_opening h.1
+  opening_decided asked (feed_full entries bytes) h = same_opening h.4
+  opening_decided asked (refused why) h = same_opening h.3
+  opening_decided asked (pages_full n heavy) h = same_opening h.5
+  opening_decided asked (log_full need room) h = same_opening h.5
+  opening_decided asked fault h = ap (λ (s : StateData). s.opening) h.1.2.same
+  opening_decided asked device h = same_opening h.1
+  opening_decided asked (busy turn) h = same_opening h.2
+  opening_decided asked (damaged page) h = same_opening h.2
+  opening_decided asked no_memory h = same_opening h
 
   pub opening_so : (causes_old causes_new : Causes) (view : Option ViewData) (text : List ℕ) (kept : SessionData)
       (reply : Reply) (left : SessionData) → Executes session old new causes_old causes_new view text kept reply left
@@ -701,14 +711,12 @@ module _ (earlier : List EntryData) (failed : List (ℕ × EntryData)) (view : O
       stepped_by
       (λ run k. committed_so earlier failed view old new causes_old causes_new cur cur' session Said left known shows
       inside is run k text h.statement h.left h.is h.meant
-      (decide_asked earlier failed view old new causes_old causes_new cur cur' session Said left known shows inside
-      is
-      run k h.left (asked_by h.left) by.decision refl by.askable by.decides by.reply_is by.causes by.on_base
-      by.left_is))
-      (asked_fine earlier failed old new causes_old causes_new inside session h.left Said (asked_by h.left)
+      (decide earlier failed view old new causes_old causes_new cur cur' session Said left known shows inside is
+      run k h.left by.askable by.decision by.decides by.reply_is by.causes by.on_base by.left_is))
+      (fine_decided earlier failed old new causes_old causes_new inside session h.left Said (asked_by h.left)
       by.decision by.decides by.causes by.reply_is)
-      (asked_halted earlier failed old new causes_old causes_new inside session h.left Said (asked_by h.left)
+      (halted_decided earlier failed old new causes_old causes_new inside session h.left Said (asked_by h.left)
       by.decision by.decides by.causes by.reply_is)
-      (asked_stays earlier failed old new causes_old causes_new inside session h.left Said (asked_by h.left)
+      (stay_ended earlier failed old new causes_old causes_new inside session h.left Said (asked_by h.left)
       by.decision by.decides)
       (faults_kept causes_old causes_new by.decision by.causes)

@@ -3,7 +3,8 @@ use Rattle.std.specs.Prelude.{◌≡◌, ◌⊎◌, ℕ, Bool, false, List, [], 
 use Rattle.std.specs.Prelude.{unwrap_or}
 use Rattle.ori_volume.specs.Disk.{Files}
 use Rattle.ori_volume.specs.Streams.{Took, Gave}
-use Rattle.ori_spec_data.specs.Base.{BaseData, EntryData}
+use Rattle.ori_spec_data.specs.Base.{EntryData}
+use Rattle.ori_spec_data.specs.Limits.{FoundData}
 use Rattle.ori_spec_data.specs.Histories.{IsLegalHistory}
 use Rattle.ori_spec_texts.specs.Line.{LineData, StopData, at_end, at_bad_line, at_limit, Gives, Reads}
 use Rattle.ori_spec_texts.specs.Reply.{AnswerData, answer_text, answers_text, tells_fault}
@@ -34,7 +35,7 @@ ArePrinted answers output unprinted =
 
 -- Why a run ends with a status, where `unread` are the lines of the input behind those that were read.
 -- 0: the source gave its end, and each line of the input has its answer, all of them printed.
--- 2: memory was wanting outside a statement, which may come at any place; a part of the last answer may be unprinted.
+-- 2: out of memory outside a statement, which may come at any place; a part of the last answer may be unprinted.
 -- 3: the source failed behind whole lines, each of which has its answer, all of them printed.
 -- 4: the sink failed; it may have taken a part of the last answer.
 -- 8: the next line is of no form. 9: the first byte past the limit of the input lies in the next line.
@@ -64,29 +65,28 @@ left_of store = record {
   halted = store.state.halted;
 }
 
--- the lines have these answers over the base that the volume was found with, and the run has come to what is kept
-pub record RunsTo (base : BaseData) (room : ℕ) (said : List LineData) (answers : List AnswerData)
+-- the lines have these answers over what the volume was found with, and the run has come to what is kept
+pub record RunsTo (found : FoundData) (said : List LineData) (answers : List AnswerData)
     (kept : KeptData) : Type 0 where
   pub now : RunData
-  pub run : Run (run_start base (Some room)) said answers now
+  pub run : Run (run_start found) said answers now
   pub keeps : Keeps kept now
 
--- a run from this base on, which leaves this; its history can come about
-pub record RanTo (base : BaseData) (room : ℕ) (said : List LineData) (answers : List AnswerData)
+-- a run from what was found on, which leaves this; its history can come about
+pub record RanTo (found : FoundData) (said : List LineData) (answers : List AnswerData)
     (left : LeftData) : Type 0 where
   pub final : RunData
-  pub run : Run (run_start base (Some room)) said answers final
+  pub run : Run (run_start found) said answers final
   pub history_is : left.history ≡ final.history
-  pub legal : IsLegalHistory base left.history
+  pub legal : IsLegalHistory found.base left.history
   pub failed_is : left.failed ≡ final.failed
   pub doubt_is : left.doubt ≡ final.doubt
   pub doubtful_is : left.failed ++ doubts left.history left.doubt ≡ doubtful final
   pub halted_is : left.halted ≡ final.halted
 
 -- A run over a volume that told these files, between a source and a sink as they were and as they are: the input that
--- it
--- took gives lines; the first of them were read and say what was run, with these answers; and of the answers' text this
--- output was given.
+-- it took gives lines; the first of them were read and say what was run, with these answers; and of the answers' text
+-- this output was given.
 pub record IsRun (files : Option Files) (left_old left_new taken_old taken_new : Option (List ℕ)) (status : ℕ)
     (answers : List AnswerData) (left : LeftData) : Type 0 where
   pub input : List ℕ
@@ -99,7 +99,7 @@ pub record IsRun (files : Option Files) (left_old left_new taken_old taken_new :
   pub said : List LineData
   pub stop : StopData
   pub reads : Reads 0 lines said stop
-  pub run : (base : BaseData) (room : ℕ) → Finds files base room → RanTo base room said answers left
+  pub run : (found : FoundData) → Finds files found → RanTo found said answers left
   pub output : List ℕ
   pub unprinted : List ℕ
   pub gave : Gave taken_old taken_new output
@@ -136,7 +136,7 @@ pub record GoesOn (files : Option Files) (left_old left_new taken_old taken_new 
   pub said : List LineData
   pub reads : Reads 0 lines said at_end
   pub answers : List AnswerData
-  pub run : (base : BaseData) (room : ℕ) → Finds files base room → RunsTo base room said answers kept
+  pub run : (found : FoundData) → Finds files found → RunsTo found said answers kept
   pub fault_told : TellFault answers → HasFailed kept.store
   pub halted_told : (at : ℕ) → TellHalted at answers → kept.store.state.halted ≡ Some at
   pub gave : Gave taken_old taken_new (answers_text answers)

@@ -1,9 +1,11 @@
 -- What the top call promises.
 use Rattle.std.specs.Prelude.{◌≡◌, ◌⊎◌, ◌↔◌, ◌≤◌, ℕ, Bool, false, List, [], ◌++◌, IsTrue, IfSome, Option, Some, None}
+use Rattle.std.specs.Prelude.{IsSome}
 use Rattle.ori_volume.specs.Causes.{Rose}
 use Rattle.ori_volume.specs.Disk.{Files, files_of}
 use Rattle.ori_volume.specs.Story.{Story, Tells}
 use Rattle.ori_spec_data.specs.Base.{BaseData, initial_base, EntryData}
+use Rattle.ori_spec_data.specs.Limits.{FoundData}
 use Rattle.ori_spec_texts.specs.Line.{IsValid}
 use Rattle.ori_spec_texts.specs.Reply.{AnswerData}
 use Rattle.ori_spec_crash.specs.Crash.{CrashSafe, doubts}
@@ -55,7 +57,7 @@ empty_report = record { was_empty = false; history = []; doubt = None; failed = 
 -- ---- the parts of the promises
 
 -- No line was run: nothing was taken from the source or given to the sink, and the report is empty. The words are wrong
--- (1), memory was wanting at the opening (2), the volume failed (5), or it is none that can be opened (6).
+-- (1), the opening was out of memory (2), the volume failed (5), or it is none that can be opened (6).
 pub record IsNotRun (old new : OutsideData) (status : ℕ) (report : ReportData) : Type 0 where
   pub left : new.left ≡ old.left
   pub taken : new.taken ≡ old.taken
@@ -72,17 +74,17 @@ left_in report halted = record {
 }
 
 -- The volume was opened, and lines were run. Commits have ended where a call on the log has failed since, and only
--- there. An answer tells of a fault only where a call on the volume failed, and that commits have ended only where they
--- have, at the count of faults that it names.
+-- there. An answer tells of a fault only where a call on the volume failed and commits have ended, and that they have
+-- only at the count of faults that it names.
 pub record IsRunOver (old new : OutsideData) (status : ℕ) (report : ReportData) : Type 0 where
   pub halted : Option ℕ
   pub halted_since : IsHaltedSince old.faults new.faults old.log_faults new.log_faults halted
   pub answers : List AnswerData
   pub run : IsRun old.files old.left new.left old.taken new.taken status answers (left_in report halted)
   pub fault_told : TellFault answers → Rose old.faults new.faults
+  pub fault_ends : TellFault answers → IsSome halted
   pub halted_told : (at : ℕ) → TellHalted at answers → halted ≡ Some at
-  pub emptiness : (base : BaseData) (room : ℕ) → Finds old.files base room
-      → IsTrue report.was_empty ↔ (base ≡ initial_base)
+  pub emptiness : (found : FoundData) → Finds old.files found → IsTrue report.was_empty ↔ (found.base ≡ initial_base)
   pub none_decided : report.failed ≡ []
 
 -- A crash at any moment of the command leaves a prefix of its history with what was acknowledged, or that with an entry
@@ -93,9 +95,8 @@ Crashes report old new = (base : BaseData) → OpensTo (files_of old.now.disk) b
 
 -- a volume that opens, valid input, and no fault
 pub record IsFaultless (old new : OutsideData) : Type 0 where
-  pub base : BaseData
-  pub room : ℕ
-  pub finds : Finds old.files base room
+  pub found : FoundData
+  pub finds : Finds old.files found
   pub input : List ℕ
   pub left_is : old.left ≡ Some input
   pub valid : IsValid input
@@ -117,10 +118,10 @@ pub record Promises (old new : OutsideData) (status : ℕ) (report : ReportData)
   pub not_a_database : status ≡ 6 → IfSome old.files (λ fs. IsDatabase (files_data fs) → ⊥)
   -- and they read the same then.
   pub unchanged : status ≡ 6 → new.files ≡ old.files
-  -- Over such files it comes, unless memory was wanting or the volume failed before.
+  -- Over such files it comes, unless memory ran out or the volume failed before.
   pub only_database : IfSome old.files (λ fs. (IsDatabase (files_data fs) → ⊥)
       → (status ≡ 1) ⊎ (status ≡ 2) ⊎ (status ≡ 5) ⊎ (status ≡ 6))
-  -- Over a volume that opens, valid input without a fault is run to its end, unless memory is wanting.
+  -- Over a volume that opens, valid input without a fault is run to its end, unless memory runs out.
   pub complete : (status ≡ 1 → ⊥) → IsFaultless old new → (status ≡ 0) ⊎ (status ≡ 2)
   -- A fault is answered only where it was one of the source's, the sink's or the volume's.
   pub source_fault : status ≡ 3 → Rose old.source_faults new.source_faults

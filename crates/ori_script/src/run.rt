@@ -3,7 +3,7 @@ ghost use Rattle.std.specs.Prelude.{◌≡◌, ◌≤◌, ◌<◌, Option, List,
 ghost use Rattle.ori_bytes.specs.declared.limits.TheConstants.{MAX_INPUT_BYTES};
 ghost use Rattle.ori_volume.specs.Causes.{Rose};
 ghost use Rattle.ori_volume.specs.Disk.{Files};
-ghost use Rattle.ori_spec_data.specs.Base.{BaseData};
+ghost use Rattle.ori_spec_data.specs.Limits.{FoundData};
 ghost use Rattle.ori_text.specs.LineReading.{line_of};
 ghost use Rattle.ori_engine.specs.Openings.{Finds, IsStarted, IsFresh, StaysOpen};
 ghost use Rattle.ori_script.specs.Keeping.{IsOfSession, store, kept};
@@ -103,7 +103,7 @@ pub(crate) fn run_lines<D: Database, S: Source, K: Sink>(
     requires { IsFresh (D.state database.old) }
     ensures run { let keeps = D.state in
         (files : Option Files)
-        → ((base : BaseData) (room : ℕ) → Finds files base room → IsStarted base room (keeps database.old))
+        → ((found : FoundData) → Finds files found → IsStarted found (keeps database.old))
         → HasEnded files (S.left source.old) (S.left source.new) (K.taken sink.old) (K.taken sink.new) result
         (store keeps D.causes database.new) }
     ensures stays { StaysOpen D.state D.sound database.old database.new }

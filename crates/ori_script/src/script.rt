@@ -70,7 +70,7 @@ fn outcome<V: Volume>(alloc: Global, status: u8, was_empty: bool, engine: Engine
 
 /// Runs a script over a volume. The volume is opened: the files of an empty one are made, and of another the log is
 /// read. Then lines are read and answered one after the other, each before the next is read. The status is 0 at the end
-/// of the input; 2 where memory is wanting outside a statement; 3 where the source failed, 4 the sink, 5 the volume
+/// of the input; 2 where it is out of memory outside a statement; 3 where the source failed, 4 the sink, 5 the volume
 /// while it was opened; 6 where its files aren't those of a database; 8 at a line that is none of the forms; 9 at the
 /// line in which the first byte past 2^30 lies.
 pub fn run_script<V: Volume, S: Source, K: Sink>(

@@ -6,7 +6,7 @@ pub const INPUT_ENDED: u8 = 0;
 /// The words are no command.
 pub const WRONG_WORDS: u8 = 1;
 
-/// Memory was wanting outside a statement.
+/// Out of memory outside a statement.
 pub const NO_MEMORY: u8 = 2;
 
 /// The source failed.

@@ -6,6 +6,7 @@ use Rattle.ori_bytes.specs.declared.causes.Causes.{Causes}
 use Rattle.ori_spec_data.specs.Value.{Fields}
 use Rattle.ori_spec_data.specs.Base.{TxData, asks_commit}
 use Rattle.ori_spec_data.specs.Apply.{relinked_fields, IsFormed}
+use Rattle.ori_spec_data.specs.Asked.{IsAskable}
 use Rattle.ori_spec_data.specs.Keeping.{StateData, DecisionData, counted, Decides, creations}
 use Rattle.ori_spec_data.specs.Replies.{ReplyData, granted, refused}
 use Rattle.ori_spec_data.specs.Staging.{staged, no_tx}
@@ -25,7 +26,7 @@ use Rattle.ori_model.specs.Replies.{commit_refusal, reply_of}
 use Rattle.ori_decide.specs.Renaming.{beside, unnamed}
 use Rattle.ori_session.specs.Rows.{rows_as}
 use Rattle.ori_session.specs.Fronts.{fronts_in, fronts_of}
-use Rattle.ori_session.specs.Commits.{AnswersOn, reply_given, reply_by, left_open, IsAskable, IsDecided}
+use Rattle.ori_session.specs.Commits.{AnswersOn, reply_given, reply_by, left_open, IsDecided}
 use Rattle.ori_decide.proofs.Ordered.{beside_is}
 use Rattle.ori_session.proofs.Given.{rows_renamed}
 use Rattle.ori_session.proofs.OnBase.{answers_on}

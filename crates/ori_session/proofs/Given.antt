@@ -16,7 +16,6 @@ use Rattle.ori_spec_texts.specs.Statement.{whole_number, whole_row}
 use Rattle.ori_spec_data.specs.Keeping.{creations}
 use Rattle.ori_spec_data.proofs.Rids.{same_rid-refl, differ}
 use Rattle.ori_session.specs.Rows.{rows_as}
-use Rattle.ori_decide.specs.Renaming.{unnamed}
 use Rattle.ori_session.specs.Commits.{rows_given}
 
 -- ---- links renamed in a row
@@ -124,12 +123,3 @@ pub rows_renamed : (made : ℕ) (cs : List ChangeData) (rids : List Rid) → Cre
     → length rids ≡ creations cs → map (relinked_fields (renamings cs rids)) (rows_as 1 cs)
     ≡ rows_given (renamings cs rids) cs rids
 rows_renamed made cs rids h e = rows_found (renamings cs rids) cs rids (found_all 0 made cs rids h e)
-
--- ---- the renamings
-
-pub unnamed_length : (cs : List ChangeData) → length (unnamed cs) ≡ creations cs
-unnamed_length [] = refl
-unnamed_length (create temp class fields ∷ cs) = omega (arith, unnamed_length cs)
-unnamed_length (update rid version fields ∷ cs) = unnamed_length cs
-unnamed_length (delete rid version ∷ cs) = unnamed_length cs
-unnamed_length (touch rid version ∷ cs) = unnamed_length cs

@@ -6,16 +6,17 @@ use Rattle.std.specs.List.{AllByRecursion}
 use Rattle.ori_bytes.specs.declared.rid.Rid.{Rid}
 use Rattle.ori_spec_data.specs.Value.{Fields}
 use Rattle.ori_spec_data.specs.Base.{ClassData, RecordData, BaseData, ChangeData, create, update, delete, touch}
-use Rattle.ori_spec_data.specs.Base.{TxData, AskedData, asks_commit, asks_define}
-use Rattle.ori_spec_data.specs.Apply.{same_rid, comes_before, rid_at, cluster_of, next_of, raised, raised_in, given_in, fresh_of}
-use Rattle.ori_spec_data.specs.Apply.{fresh}
+use Rattle.ori_spec_data.specs.Base.{TxData, asks_commit, entry_by}
+use Rattle.ori_spec_data.specs.Apply.{same_rid, comes_before, rid_at, cluster_of, next_of, raised, raised_in, given_in}
+use Rattle.ori_spec_data.specs.Apply.{fresh_of, fresh}
+use Rattle.ori_spec_data.specs.Asked.{IsAskable, refusal_of, fresh_by}
 use Rattle.ori_spec_data.specs.Apply.{renamings, relinked_fields, left_of, put_record, with_created, apply_tx, apply}
 use Rattle.ori_spec_data.specs.Apply.{IsFormed}
 use Rattle.ori_spec_data.specs.Records.{record_at}
 use Rattle.ori_spec_data.specs.Refusing.{refusal}
 use Rattle.ori_spec_data.specs.Soundness.{AreClasses, IsSoundIn, IsSoundBase}
 use Rattle.ori_spec_data.specs.Keeping.{StateData, DecisionData, accepted, halted_at, feed_full, refused, pages_full}
-use Rattle.ori_spec_data.specs.Keeping.{log_full, fault, device, busy, damaged, no_memory, Decides, DecidesCommit}
+use Rattle.ori_spec_data.specs.Keeping.{log_full, fault, device, busy, damaged, no_memory, Decides}
 use Rattle.ori_spec_data.specs.Replies.{granted}
 use Rattle.ori_spec_data.specs.Staging.{staged, no_tx}
 use Rattle.ori_spec_runs.specs.Answer.{PendingData, one, whole, schema, asked_by}
@@ -24,7 +25,7 @@ use Rattle.ori_spec_data.proofs.Rids.{same_rid-refl, differ}
 use Rattle.ori_spec_data.proofs.Orders.{at_put, all_put}
 use Rattle.ori_spec_data.proofs.Kept.{AreAllowed, IsLeft, left_is, all_more, next_same, next_grows}
 use Rattle.ori_spec_data.proofs.Kept.{in_range, length_raised, same_place, unrefused, all_allowed}
-use Rattle.ori_session.specs.Commits.{rows_given, reply_given, reply_by, IsAskable, entry_by, AnswersOn}
+use Rattle.ori_session.specs.Commits.{rows_given, reply_given, reply_by, AnswersOn}
 
 -- the record is at a position that was given
 abbrev IsOld : List ℕ → RecordData → Type 0
@@ -166,52 +167,36 @@ rows_on base tx sound formed free =
     (all_there base.schema.classes base.next base.stored ps tx.changes (flat_map (left_of ps tx.changes) base.stored)
     sound.classes sound.counted (all_allowed base tx formed (unrefused base tx free)) kept)
 
-given_on : (base : BaseData) (session : ℕ) (rids : List Rid) (p : PendingData) (tx : TxData)
-    → asked_by p ≡ asks_commit tx → IsSoundBase base → IsFormed tx → refusal base tx ≡ None → rids ≡ fresh base tx
+given_on : (base : BaseData) (session : ℕ) (rids : List Rid) (p : PendingData) → IsSoundBase base
+    → IsAskable (asked_by p) → refusal_of base (asked_by p) ≡ None → rids ≡ fresh_by base (asked_by p)
     → reply_given rids p ≡ reply_on (apply base (entry_by session (asked_by p) rids)) rids p
-given_on base session rids (one plan) tx a sound formed free e =
+given_on base session rids (one plan) sound formed free e =
     let made = staged no_tx plan.changes in
-    let same : made ≡ tx = cc in
-    let there = rows_on base made sound (subst IsFormed (sym same) formed)
-    (subst (λ (t : TxData). refusal base t ≡ None) (sym same) free) in
-    let given : rids ≡ fresh base made = e ∙ ap (fresh base) (sym same) in
     subst (λ (xs : List Rid). reply_given xs (one plan)
-    ≡ reply_on (apply base (entry_by session (asked_by (one plan)) xs)) xs (one plan)) (sym given)
-    (ap (λ (rows : List Fields). granted rows plan.count) (sym there))
-given_on base session rids (whole whole_tx) tx a sound formed free e = refl
-given_on base session rids (schema definition) tx a sound formed free e = absurd (cc)
+    ≡ reply_on (apply base (entry_by session (asks_commit made) xs)) xs (one plan)) (sym e)
+    (ap (λ (rows : List Fields). granted rows plan.count) (sym (rows_on base made sound formed free)))
+given_on base session rids (whole tx) sound formed free e = refl
+given_on base session rids (schema definition) sound askable free e = refl
 
-accepted_on : (base : Option BaseData) (session : ℕ) (rids : List Rid) (p : PendingData) (tx : TxData)
-    → asked_by p ≡ asks_commit tx → IsFormed tx → IfSome base (λ b. refusal b tx ≡ None)
-    → IfSome base (λ b. rids ≡ fresh b tx)
+accepted_on : (base : Option BaseData) (session : ℕ) (rids : List Rid) (p : PendingData) → IsAskable (asked_by p)
+    → IfSome base (λ b. refusal_of b (asked_by p) ≡ None) → IfSome base (λ b. rids ≡ fresh_by b (asked_by p))
     → IfSome base (λ b. IsSoundBase b → reply_given rids p
     ≡ reply_on (apply b (entry_by session (asked_by p) rids)) rids p)
-accepted_on None session rids p tx a formed free e = tt
-accepted_on (Some base) session rids p tx a formed free e = λ sound. given_on base session rids p tx a sound formed
-    free e
-
-decided_on : (old : StateData) (session : ℕ) (p : PendingData) (tx : TxData) (d : DecisionData) (new : StateData)
-    → asked_by p ≡ asks_commit tx → IsFormed tx → DecidesCommit old session tx d new
-    → AnswersOn old session p d (reply_by d p)
-decided_on old session p tx (accepted place rids) new a formed h =
-    accepted_on old.base session rids p tx a formed h.0.allowed.allowed h.2.1
-decided_on old session p tx (halted_at at) new a formed h = tt
-decided_on old session p tx (feed_full entries bytes) new a formed h = tt
-decided_on old session p tx (refused why) new a formed h = tt
-decided_on old session p tx (pages_full in_use weight) new a formed h = tt
-decided_on old session p tx (log_full need room) new a formed h = tt
-decided_on old session p tx fault new a formed h = tt
-decided_on old session p tx device new a formed h = tt
-decided_on old session p tx (busy turn) new a formed h = tt
-decided_on old session p tx (damaged page) new a formed h = tt
-decided_on old session p tx no_memory new a formed h = tt
-
-asked_on : (old : StateData) (session : ℕ) (p : PendingData) (asked : AskedData) (d : DecisionData) (new : StateData)
-    → asked_by p ≡ asked → IsAskable asked → Decides old session asked d new → AnswersOn old session p d (reply_by d p)
-asked_on old session p (asks_commit tx) d new a formed h = decided_on old session p tx d new a formed h
-asked_on old session p (asks_define definition) d new a formed h = absurd h
+accepted_on None session rids p askable free e = tt
+accepted_on (Some base) session rids p askable free e = λ sound. given_on base session rids p sound askable free e
 
 -- the reply to what was accepted is the one on the base that it makes, where that was sound
 pub answers_on : (old : StateData) (session : ℕ) (p : PendingData) (d : DecisionData) (new : StateData)
     → IsAskable (asked_by p) → Decides old session (asked_by p) d new → AnswersOn old session p d (reply_by d p)
-answers_on old session p d new formed h = asked_on old session p (asked_by p) d new refl formed h
+answers_on old session p (accepted place rids) new askable h =
+    accepted_on old.base session rids p askable h.0.allowed.allowed h.2.1
+answers_on old session p (halted_at at) new askable h = tt
+answers_on old session p (feed_full entries bytes) new askable h = tt
+answers_on old session p (refused why) new askable h = tt
+answers_on old session p (pages_full in_use weight) new askable h = tt
+answers_on old session p (log_full need room) new askable h = tt
+answers_on old session p fault new askable h = tt
+answers_on old session p device new askable h = tt
+answers_on old session p (busy turn) new askable h = tt
+answers_on old session p (damaged page) new askable h = tt
+answers_on old session p no_memory new askable h = tt

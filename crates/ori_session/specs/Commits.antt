@@ -1,11 +1,11 @@
 -- What a commit step answers and leaves.
-use Rattle.std.specs.Prelude.{◌≡◌, ℕ, Bool, true, false, List, [], ◌∷◌, length, None, Ok, IfSome, if◌then◌else◌, ⊤}
+use Rattle.std.specs.Prelude.{◌≡◌, ℕ, Bool, true, false, List, [], ◌∷◌, length, None, Ok, IfSome, if◌then◌else◌}
 use Rattle.ori_bytes.specs.declared.rid.Rid.{Rid}
 use Rattle.ori_bytes.specs.declared.causes.Causes.{Causes}
 use Rattle.ori_spec_data.specs.Value.{Fields}
-use Rattle.ori_spec_data.specs.Base.{ChangeData, create, update, delete, touch, EntryData, commit, define, AskedData}
-use Rattle.ori_spec_data.specs.Base.{asks_commit, asks_define}
-use Rattle.ori_spec_data.specs.Apply.{renamings, relinked_fields, apply, IsFormed}
+use Rattle.ori_spec_data.specs.Base.{ChangeData, create, update, delete, touch, entry_by}
+use Rattle.ori_spec_data.specs.Apply.{renamings, relinked_fields, apply}
+use Rattle.ori_spec_data.specs.Asked.{IsAskable}
 use Rattle.ori_spec_data.specs.Soundness.{IsSoundBase}
 use Rattle.ori_spec_data.specs.Staging.{staged, no_tx}
 use Rattle.ori_spec_data.specs.Keeping.{StateData, DecisionData, accepted, halted_at, feed_full, refused, pages_full}
@@ -71,16 +71,6 @@ left_open kept (whole tx) d = if stays d then kept else with_open kept None
 left_open kept (schema definition) d = kept
 
 -- ---- commit steps
-
--- a transaction that is committed is formed
-abbrev pub IsAskable : AskedData → Type 0
-IsAskable (asks_commit tx) = IsFormed tx
-IsAskable (asks_define definition) = ⊤
-
--- the entry that is made of what was asked, with the identifiers of its new records
-abbrev pub entry_by : ℕ → AskedData → List Rid → EntryData
-entry_by session (asks_commit tx) rids = commit session tx rids
-entry_by session (asks_define definition) rids = define session definition
 
 -- The reply to what was accepted is the one on the base that it makes, where the keeper told a sound base.
 abbrev pub AnswersOn : StateData → ℕ → PendingData → DecisionData → ReplyData → Type 0

@@ -15,7 +15,7 @@ fronts_in reply = record { read = reply.read_front; commit = reply.commit_front 
 abbrev pub read_alone : ℕ → FrontsData
 read_alone front = record { read = front; commit = None }
 
--- The front at which a keeper decided, which had met this one: an accepted entry counts too. Where memory was wanting
+-- The front at which a keeper decided, which had met this one: an accepted entry counts too. Out of memory
 -- it decided nothing.
 abbrev pub decided_at : ℕ → DecisionData → Option ℕ
 decided_at met (accepted place rids) = Some (place + 1)

@@ -76,7 +76,7 @@ pub record IsUnbuilt (text : List ℕ) (reply : ReplyData) : Type 0 where
   pub none : (s : StatementData) → IsStatement text s → ⊥
   pub reply_is : reply ≡ refused unbuilt
 
--- A read failed, or memory was wanting. A reader counts each cause that only its outside has.
+-- A read failed, or was out of memory. A reader counts each cause that only its outside has.
 pub record IsReadFault (view : Option ViewData) (causes_old causes_new : Causes) (reply : ReplyData) : Type 0 where
   pub fault : ReadFault
   pub may : MayFail (told_real view) fault

@@ -19,7 +19,7 @@ IsAnswer (answered said) old reply new = (reply ≡ said) × (new ≡ old)
 IsAnswer (turned said kept) old reply new = (reply ≡ said) × (new ≡ kept)
 IsAnswer (pending p) old reply new = ⊥
 
--- The text is no statement, or a read failed or memory was wanting for it; all is as before.
+-- The text is no statement, or a read failed or was out of memory; all is as before.
 pub record IsRefused (state_old state_new : StateData) (causes_old causes_new : Causes) (view : Option ViewData)
     (text : List ℕ) (old : SessionData) (reply : Reply) (new : SessionData) : Type 0 where
   pub why : (IsUnbuilt text (reply_of reply) × (causes_new ≡ causes_old))

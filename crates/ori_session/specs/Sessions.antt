@@ -1,8 +1,9 @@
 -- What is kept of a session, and what its steps leave, as plain data.
 use Rattle.std.specs.Prelude.{◌≡◌, ℕ, Bool, true, false, map, Option, Some, None, option_map, ⊤}
 use Rattle.ori_bytes.specs.declared.rid.Rid.{Rid}
-use Rattle.ori_spec_data.specs.Base.{ChangeData, create, update, delete, touch, TxData}
+use Rattle.ori_spec_data.specs.Base.{ChangeData, create, update, delete, touch, TxData, asks_define}
 use Rattle.ori_spec_data.specs.Apply.{is_temporary}
+use Rattle.ori_spec_data.specs.Asked.{IsAskable}
 use Rattle.ori_spec_data.specs.Views.{created_of}
 use Rattle.ori_spec_data.specs.Staging.{CanStage, no_tx, change_at}
 use Rattle.ori_spec_runs.specs.Answer.{PlanData, rids_of, SessionData, PendingData, one, whole, schema}
@@ -49,14 +50,14 @@ pub record IsPlanned (plan : PlanData) : Type 0 where
   pub can : CanStage no_tx plan.changes
   pub rows : plan.rows ≡ rids_of (created_of plan.changes)
 
--- A statement's changes are committed by themselves where nothing is open, and the open transaction as a whole. No
--- statement leaves a schema change yet.
+-- A statement's changes are committed by themselves where nothing is open, and the open transaction as a whole. A
+-- schema change is one that can be asked.
 abbrev pub CanCommitIn : Option TxData → Pending → Type 0
 CanCommitIn None (Tx plan front) = IsPlanned (plan_data plan)
 CanCommitIn (Some tx) (Tx plan front) = ⊥
 CanCommitIn None (Whole front) = ⊥
 CanCommitIn (Some tx) (Whole front) = ⊤
-CanCommitIn current (Schema definition front) = ⊥
+CanCommitIn current (Schema definition front) = IsAskable (asks_define (definition_of definition))
 
 abbrev pub CanCommit : SessionData → Pending → Type 0
 CanCommit session left = CanCommitIn session.transaction left

@@ -82,7 +82,7 @@ fn stays_open(fault: &CommitFault) -> bool
     )
 }
 
-// The front at which a commit was refused so, which had met this one; none where memory was wanting for a decision.
+// The front at which a commit was refused so, which had met this one; none where there was no memory for a decision.
 fn refused_at(fault: &CommitFault, met: u64) -> Option<u64>
     ensures { result ≡ decided_at met (decision_of (Err fault.now)) }
 {
@@ -287,8 +287,8 @@ impl Session {
     }
 
     /// Commits what the session's last step, a read step, left. It takes its memory before it calls the keeper, so
-    /// that want of it leaves all as it was, and reads nothing after an accepted commit. After it the session has
-    /// nothing open, but where a COMMIT was refused for want of memory, by the device or as busy: the transaction
+    /// that out of memory leaves all as it was, and reads nothing after an accepted commit. After it the session has
+    /// nothing open, but where a COMMIT was refused as out of memory, by the device or as busy: the transaction
     /// stays then and may be committed again.
     pub fn commit_step<K: Keeper>(
         &mut self,

@@ -225,7 +225,7 @@ impl Session {
 
     /// Reads a statement and does what it means, up to a commit: over the records that the reader shows, with the
     /// changes of the open transaction. A text that is no statement is answered `Unbuilt`. A fault of the reader and
-    /// want of memory are answered too. After each refusal what is kept of the session is as before. The front is
+    /// out of memory are answered too. After each refusal what is kept of the session is as before. The front is
     /// that of what the reader shows. At most one record is fetched.
     pub fn read_step<R: Reader>(
         &mut self,

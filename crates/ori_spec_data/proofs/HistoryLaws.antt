@@ -160,7 +160,7 @@ later_after base (commit session tx rids ∷ es) (suc n) rid sound legal old =
     (one_later base tx rid sound legal.0 legal.1 old)
     (later_after (apply_tx base tx) es n rid (apply_sound base tx sound legal.0 legal.1) legal.3
     (old_later base tx rid sound legal.0 legal.1 old))
-later_after base (define session d ∷ es) (suc n) rid sound legal old = absurd legal
+later_after base (define session d ∷ es) (suc n) rid sound legal old = absurd legal.0
 
 next_grows_after : (base : BaseData) (history : List EntryData) (n d : ℕ) → IsSoundBase base
     → IsLegalHistory base history → next_of base.next d ≤ next_of (base_after base history n).next d
@@ -170,7 +170,7 @@ next_grows_after base (commit session tx rids ∷ es) (suc n) d sound legal =
     let one = next_later base tx d sound legal.0 legal.1 in
     let rest = next_grows_after (apply_tx base tx) es n d (apply_sound base tx sound legal.0 legal.1) legal.3 in
     omega (arith, one, rest)
-next_grows_after base (define session e ∷ es) (suc n) d sound legal = absurd legal
+next_grows_after base (define session e ∷ es) (suc n) d sound legal = absurd legal.0
 
 next_between : (base : BaseData) (history : List EntryData) (m n d : ℕ) → IsSoundBase base → IsLegalHistory base history
     → m ≤ n → next_of (base_after base history m).next d ≤ next_of (base_after base history n).next d
@@ -180,7 +180,7 @@ next_between base [] (suc m) (suc n) d sound legal h = omega arith
 next_between base (commit session tx rids ∷ es) (suc m) zero d sound legal h = absurd (omega arith)
 next_between base (commit session tx rids ∷ es) (suc m) (suc n) d sound legal h =
     next_between (apply_tx base tx) es m n d (apply_sound base tx sound legal.0 legal.1) legal.3 (omega arith)
-next_between base (define session e ∷ es) (suc m) n d sound legal h = absurd legal
+next_between base (define session e ∷ es) (suc m) n d sound legal h = absurd legal.0
 
 sound_after : (base : BaseData) (history : List EntryData) (n : ℕ) → IsSoundBase base → IsLegalHistory base history
     → IsSoundBase (base_after base history n)
@@ -188,7 +188,7 @@ sound_after base history zero sound legal = sound
 sound_after base [] (suc n) sound legal = sound
 sound_after base (commit session tx rids ∷ es) (suc n) sound legal =
     sound_after (apply_tx base tx) es n (apply_sound base tx sound legal.0 legal.1) legal.3
-sound_after base (define session e ∷ es) (suc n) sound legal = absurd legal
+sound_after base (define session e ∷ es) (suc n) sound legal = absurd legal.0
 
 found_sound : (classes : List ClassData) (next : List ℕ) (rs : List RecordData) (rid : Rid) (r : RecordData)
     → AllByRecursion (IsSoundIn classes next) rs → record_at rs rid ≡ Some r → IsSoundIn classes next r × (r.rid ≡ rid)
@@ -241,7 +241,7 @@ version_pins base history (suc m) zero rid r s sound legal e f h =
 version_pins base [] (suc m) (suc n) rid r s sound legal e f h = from_first base [] (suc n) rid r s sound legal e f h
 version_pins base (commit session tx rids ∷ es) (suc m) (suc n) rid r s sound legal e f h =
     version_pins (apply_tx base tx) es m n rid r s (apply_sound base tx sound legal.0 legal.1) legal.3 e f h
-version_pins base (define session d ∷ es) (suc m) (suc n) rid r s sound legal e f h = absurd legal
+version_pins base (define session d ∷ es) (suc m) (suc n) rid r s sound legal e f h = absurd legal.0
 
 -- ---- fresh identifiers
 

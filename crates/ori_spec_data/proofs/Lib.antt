@@ -10,3 +10,4 @@ pub mod Kept
 pub mod HistoryLaws
 pub mod InFront
 mod WorkedChanges
+mod WorkedValues

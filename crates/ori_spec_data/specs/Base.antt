@@ -112,3 +112,18 @@ pub data EntryData : Type 0 where
 pub data AskedData : Type 0 where
   asks_commit : TxData → AskedData
   asks_define : DefinitionData → AskedData
+
+-- what an entry was made of
+abbrev pub asked_in : EntryData → AskedData
+asked_in (commit session tx rids) = asks_commit tx
+asked_in (define session definition) = asks_define definition
+
+-- the identifiers of the new records of an entry, in order of creation
+abbrev pub new_in : EntryData → List Rid
+new_in (commit session tx rids) = rids
+new_in (define session definition) = []
+
+-- the entry that is made of what a session asks, with the identifiers of its new records
+abbrev pub entry_by : ℕ → AskedData → List Rid → EntryData
+entry_by session (asks_commit tx) rids = commit session tx rids
+entry_by session (asks_define definition) rids = define session definition

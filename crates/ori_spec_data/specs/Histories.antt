@@ -1,21 +1,21 @@
 -- Histories that can come about, and what holds of the bases that they lead to.
 use Rattle.std.specs.Prelude.{◌≡◌, ℕ, ◌≤◌, List, [], ◌∷◌, take, Some, None, ⊤, Any}
 use Rattle.ori_bytes.specs.declared.rid.Rid.{Rid}
-use Rattle.ori_spec_data.specs.Base.{RecordData, BaseData, initial_base, TxData, EntryData, commit, define}
-use Rattle.ori_spec_data.specs.Apply.{IsFormed, fresh, apply_tx, replay}
+use Rattle.ori_spec_data.specs.Base.{RecordData, BaseData, initial_base, TxData, EntryData, asked_in, new_in}
+use Rattle.ori_spec_data.specs.Apply.{IsFormed, fresh, apply_tx, apply, replay}
 use Rattle.ori_spec_data.specs.Records.{record_at}
 use Rattle.ori_spec_data.specs.Refusing.{refusal}
+use Rattle.ori_spec_data.specs.Asked.{IsAskable, refusal_of, fresh_by}
 use Rattle.ori_spec_data.specs.Views.{overlay, view_of, shown_through}
 use Rattle.ori_spec_data.specs.Soundness.{IsSoundBase}
 
--- At each place the transaction is formed, the base so far refuses nothing, and the new records have the identifiers
--- that are
--- fresh there. Nothing changes a schema yet.
+-- At each place what the entry was made of can be asked, the base so far doesn't refuse it, and the new records have
+-- the identifiers that are fresh there.
 abbrev pub IsLegalHistory : BaseData → List EntryData → Type 0
 IsLegalHistory base [] = ⊤
-IsLegalHistory base (commit session tx rids ∷ es) =
-    IsFormed tx × (refusal base tx ≡ None) × (rids ≡ fresh base tx) × IsLegalHistory (apply_tx base tx) es
-IsLegalHistory base (define session definition ∷ es) = ⊥
+IsLegalHistory base (e ∷ es) =
+    IsAskable (asked_in e) × (refusal_of base (asked_in e) ≡ None) × (new_in e ≡ fresh_by base (asked_in e))
+    × IsLegalHistory (apply base e) es
 
 -- ---- the laws
 

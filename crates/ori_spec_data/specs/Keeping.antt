@@ -5,19 +5,20 @@ use Rattle.ori_bytes.specs.declared.rid.Rid.{Rid}
 use Rattle.ori_bytes.specs.declared.causes.Causes.{Causes}
 use Rattle.ori_bytes.specs.declared.limits.TheConstants.{MAX_PAGES, MAX_FEED_ENTRIES, MAX_FEED_BYTES, MAX_RECORD_BYTES}
 use Rattle.ori_bytes.specs.declared.limits.TheConstants.{MAX_WEIGHT, PARTITIONS}
-use Rattle.ori_spec_data.specs.Base.{BaseData, ChangeData, create, update, delete, touch, TxData, EntryData, commit}
-use Rattle.ori_spec_data.specs.Base.{define, AskedData, asks_commit, asks_define}
-use Rattle.ori_spec_data.specs.Apply.{target, fresh, apply, replay}
-use Rattle.ori_spec_data.specs.Weighing.{weight, changes_bytes, feed_bytes, log_need}
+use Rattle.ori_spec_data.specs.Base.{BaseData, ChangeData, create, update, delete, touch, EntryData, AskedData}
+use Rattle.ori_spec_data.specs.Base.{asked_in, entry_by}
+use Rattle.ori_spec_data.specs.Apply.{target, apply, replay}
+use Rattle.ori_spec_data.specs.Weighing.{asked_bytes, feed_bytes}
 use Rattle.ori_spec_data.specs.Refusing.{RuleData, no_class, ends, temporary_link, version_end, CommitRefusalData}
 use Rattle.ori_spec_data.specs.Refusing.{conflict, breaks, record_too_large, key_too_long, duplicate, cluster_full}
-use Rattle.ori_spec_data.specs.Refusing.{tx_too_large, refusal}
+use Rattle.ori_spec_data.specs.Refusing.{tx_too_large}
+use Rattle.ori_spec_data.specs.Asked.{changes_in, asked_weight, entry_weight, refusal_of, fresh_by, MayBreak}
+use Rattle.ori_spec_data.specs.Limits.{need_told, IsWithin, room_after}
 
 -- ---- states
 
 -- What stays for a whole opening: the base and the pages in use that it found, where the keeper tells them, and the
--- counts of
--- faults and the moment at its end.
+-- counts of faults and the moment at its end.
 pub record OpeningData : Type 0 where
   pub base : Option BaseData
   pub in_use : Option ℕ
@@ -26,10 +27,8 @@ pub record OpeningData : Type 0 where
   pub moment : ℕ
 
 -- The base, the entries since the opening and the pages in use are there where the keeper tells them. `limit` is the
--- bytes that the
--- log has room for, where it has such a limit, as one that is never emptied. `front` is the number of the entries,
--- `halted` the count
--- of faults at which commits ended, and `doubt` the entry whose own write failed.
+-- room of a log that is never emptied. `front` is the number of the entries, `halted` the count of faults at which
+-- commits ended, and `doubt` the entry whose own write failed.
 pub record StateData : Type 0 where
   pub base : Option BaseData
   pub feed : Option (List EntryData)
@@ -95,29 +94,29 @@ counted (busy turn) causes = with_busy causes
 counted (damaged page) causes = with_damaged causes
 counted no_memory causes = causes
 
-abbrev pub bytes_with : List EntryData → TxData → ℕ
-bytes_with feed tx = feed_bytes feed + changes_bytes tx.changes
+abbrev pub bytes_with : List EntryData → AskedData → ℕ
+bytes_with feed asked = feed_bytes feed + asked_bytes asked
 
--- the feed has so many entries, and would have so many bytes with this transaction's entry
+-- the feed has so many entries, and would have so many bytes with one more
 abbrev pub IsFull : ℕ → ℕ → Type 0
 IsFull entries bytes = (MAX_FEED_ENTRIES ≤ entries) ⊎ (MAX_FEED_BYTES < bytes)
 
--- so far nothing stands against the transaction: the base is asked next
-pub record IsAsked (state : StateData) (tx : TxData) : Type 0 where
+-- so far nothing stands against what is asked: the base is asked next
+pub record IsAsked (state : StateData) (asked : AskedData) : Type 0 where
   pub running : state.halted ≡ None
   pub entries : state.front < MAX_FEED_ENTRIES
-  pub bytes : IfSome state.feed (λ feed. bytes_with feed tx ≤ MAX_FEED_BYTES)
+  pub bytes : IfSome state.feed (λ feed. bytes_with feed asked ≤ MAX_FEED_BYTES)
 
 -- neither does the base, nor the number of pages
-pub record IsAllowed (state : StateData) (tx : TxData) : Type 0 where
-  pub asked : IsAsked state tx
-  pub allowed : IfSome state.base (λ base. refusal base tx ≡ None)
-  pub pages : IfSome state.base (λ base. IfSome state.in_use (λ n. n + weight base tx ≤ MAX_PAGES))
+pub record IsAllowed (state : StateData) (asked : AskedData) : Type 0 where
+  pub asked_is : IsAsked state asked
+  pub allowed : IfSome state.base (λ base. refusal_of base asked ≡ None)
+  pub pages : IfSome state.base (λ base. IfSome state.in_use (λ n. n + asked_weight base asked ≤ MAX_PAGES))
 
 -- nor the log
-pub record IsGranted (state : StateData) (tx : TxData) : Type 0 where
-  pub allowed : IsAllowed state tx
-  pub room : IfSome state.limit (λ n. log_need tx ≤ n)
+pub record IsGranted (state : StateData) (asked : AskedData) : Type 0 where
+  pub allowed : IsAllowed state asked
+  pub room : IsWithin state.limit state.base asked
 
 -- the change names the record with that version
 abbrev pub Names : ChangeData → Rid → ℕ → Type 0
@@ -134,19 +133,19 @@ IsInForce temporary_link = ⊤
 IsInForce version_end = ⊤
 IsInForce rule = ⊥
 
--- What a refusal says of the transaction, also where the keeper doesn't tell its base. It names a record that a change
--- names; a
--- conflict's has the version that the change expects, and is found with another or not at all; and what is too large
--- passes its
--- limit. Keys come with the stage of indexes.
-abbrev pub MayRefuse : TxData → CommitRefusalData → Type 0
-MayRefuse tx (conflict rid expected found) = Any (λ c. Names c rid expected) tx.changes × (found ≢ Some expected)
-MayRefuse tx (breaks rid property rule) = Any (λ c. target c ≡ rid) tx.changes × IsInForce rule
-MayRefuse tx (record_too_large rid bytes) = Any (λ c. target c ≡ rid) tx.changes × (MAX_RECORD_BYTES < bytes)
-MayRefuse tx (key_too_long index rid bytes) = ⊥
-MayRefuse tx (duplicate index first second) = ⊥
-MayRefuse tx (cluster_full cluster) = ⊤
-MayRefuse tx (tx_too_large heavy) = MAX_WEIGHT < heavy
+-- What a refusal says of what is asked, also where the keeper doesn't tell its base. It names a record that a change
+-- names; a conflict's has the version that the change expects, and is found with another or not at all; and what is too
+-- large passes its limit. Keys come with the stage of indexes.
+abbrev pub MayRefuse : AskedData → CommitRefusalData → Type 0
+MayRefuse asked (conflict rid expected found) =
+    Any (λ c. Names c rid expected) (changes_in asked) × (found ≢ Some expected)
+MayRefuse asked (breaks rid property rule) = MayBreak asked rid × IsInForce rule
+MayRefuse asked (record_too_large rid bytes) =
+    Any (λ c. target c ≡ rid) (changes_in asked) × (MAX_RECORD_BYTES < bytes)
+MayRefuse asked (key_too_long index rid bytes) = ⊥
+MayRefuse asked (duplicate index first second) = ⊥
+MayRefuse asked (cluster_full cluster) = ⊤
+MayRefuse asked (tx_too_large heavy) = MAX_WEIGHT < heavy
 
 abbrev pub creations : List ChangeData → ℕ
 creations [] = 0
@@ -156,24 +155,17 @@ creations (delete rid version ∷ cs) = creations cs
 creations (touch rid version ∷ cs) = creations cs
 
 -- these are the identifiers of its new records, one for each
-abbrev pub AreFresh : StateData → TxData → List Rid → Type 0
-AreFresh state tx rids = (length rids ≡ creations tx.changes) × IfSome state.base (λ base. rids ≡ fresh base tx)
+abbrev pub AreFresh : StateData → AskedData → List Rid → Type 0
+AreFresh state asked rids =
+    (length rids ≡ creations (changes_in asked)) × IfSome state.base (λ base. rids ≡ fresh_by base asked)
 
--- what an entry weighs on a base; a schema change's weight comes with these
-abbrev pub entry_weight : BaseData → EntryData → ℕ
-entry_weight base (commit session tx rids) = weight base tx
-entry_weight base (define session definition) = 0
-
--- the bytes that a log of limited room has left after a commit, whose last gate is the next one's first
-abbrev pub left_after : EntryData → ℕ → ℕ
-left_after (commit session tx rids) n = n - (log_need tx - 1)
-left_after (define session definition) n = n
-
--- The entry joins the feed, and the base is what it makes of it. It takes at most its weight in pages.
+-- The entry joins the feed, and the base is what it makes of it. It takes at most its weight in pages, and of the log
+-- what it needs.
 pub record Joins (old : StateData) (entry : EntryData) (new : StateData) : Type 0 where
   pub base : new.base ≡ option_map (λ base. apply base entry) old.base
   pub feed : new.feed ≡ option_map (λ feed. feed ++ entry ∷ []) old.feed
-  pub limit : new.limit ≡ option_map (left_after entry) old.limit
+  pub limit : IfSome (need_told old.base (asked_in entry))
+      (λ need. new.limit ≡ option_map (room_after need) old.limit)
   pub in_use : MatchOption old.in_use (new.in_use ≡ None)
       (λ n. IsSomeAnd new.in_use (λ m. IfSome old.base (λ base. m ≤ n + entry_weight base entry)))
   pub front : new.front ≡ old.front + 1
@@ -181,43 +173,39 @@ pub record Joins (old : StateData) (entry : EntryData) (new : StateData) : Type 
   pub doubt : new.doubt ≡ old.doubt
   pub opening : new.opening ≡ old.opening
 
--- A write failed. Nothing else has changed than that commits may have ended, and that its entry may be in doubt; it is
--- only where
--- they have.
-pub record Breaks (old : StateData) (session : ℕ) (tx : TxData) (new : StateData) : Type 0 where
+-- A write failed. Nothing has changed, or no more than that commits have ended and the entry is in doubt.
+pub record Breaks (old : StateData) (entry : EntryData) (new : StateData) : Type 0 where
   pub same : new ≡ record old { halted = new.halted; doubt = new.doubt }
-  pub doubt : (new.doubt ≡ old.doubt)
-      ⊎ ((rids : List Rid) × AreFresh old tx rids × (new.doubt ≡ Some (commit session tx rids)) × IsSome new.halted)
+  pub doubt : ((new.doubt ≡ old.doubt) × (new.halted ≡ old.halted)) ⊎ ((new.doubt ≡ Some entry) × IsSome new.halted)
 
--- A commit is decided on the state in this order: halted; the feed is full; the base refuses it; pages are full; the
--- log is full; it
--- is accepted. Each answer but want of memory comes exactly where it is its turn, or where a read or write failed.
-abbrev pub DecidesCommit : StateData → ℕ → TxData → DecisionData → StateData → Type 0
-DecidesCommit old session tx (accepted place rids) new =
-    IsGranted old tx × (place ≡ old.front) × AreFresh old tx rids × Joins old (commit session tx rids) new
-DecidesCommit old session tx (halted_at at) new = (old.halted ≡ Some at) × (new ≡ old)
-DecidesCommit old session tx (feed_full entries bytes) new =
-    (old.halted ≡ None) × (entries ≡ old.front) × IsFull entries bytes
-    × IfSome old.feed (λ feed. bytes ≡ bytes_with feed tx)
-    × (new ≡ old)
-DecidesCommit old session tx (refused why) new =
-    IsAsked old tx × IfSome old.base (λ base. refusal base tx ≡ Some why) × MayRefuse tx why × (new ≡ old)
-DecidesCommit old session tx (pages_full n heavy) new =
-    IsAsked old tx × IfSome old.base (λ base. (refusal base tx ≡ None) × (heavy ≡ weight base tx))
-    × IfSome old.in_use (λ m. n ≡ m) × (heavy ≤ MAX_WEIGHT) × (MAX_PAGES < n + heavy) × (new ≡ old)
-DecidesCommit old session tx (log_full need room) new =
-    IsAllowed old tx × (need ≡ log_need tx) × IfSome old.base (λ base. old.limit ≡ Some room)
-    × IfSome old.limit (λ n. room ≡ n) × (room < need) × (new ≡ old)
-DecidesCommit old session tx fault new = IsGranted old tx × Breaks old session tx new
-DecidesCommit old session tx device new = IsAsked old tx × (new ≡ old)
-DecidesCommit old session tx (busy turn) new = IsAsked old tx × IsTurn turn × (new ≡ old)
-DecidesCommit old session tx (damaged page) new = IsAsked old tx × (old.base ≡ None) × (new ≡ old)
-DecidesCommit old session tx no_memory new = new ≡ old
-
--- What is asked is decided on the state. No schema change can be asked yet.
+-- What a session asks is decided on the state in this order: halted; the feed is full; the base refuses it; pages are
+-- full; the log is full; it is accepted. Each answer but out of memory comes exactly where it is its turn, or where a
+-- read or write failed.
 abbrev pub Decides : StateData → ℕ → AskedData → DecisionData → StateData → Type 0
-Decides old session (asks_commit tx) decision new = DecidesCommit old session tx decision new
-Decides old session (asks_define definition) decision new = ⊥
+Decides old session asked (accepted place rids) new =
+    IsGranted old asked × (place ≡ old.front) × AreFresh old asked rids
+    × Joins old (entry_by session asked rids) new
+Decides old session asked (halted_at at) new = (old.halted ≡ Some at) × (new ≡ old)
+Decides old session asked (feed_full entries bytes) new =
+    (old.halted ≡ None) × (entries ≡ old.front) × IsFull entries bytes
+    × IfSome old.feed (λ feed. bytes ≡ bytes_with feed asked)
+    × (new ≡ old)
+Decides old session asked (refused why) new =
+    IsAsked old asked × IfSome old.base (λ base. refusal_of base asked ≡ Some why) × MayRefuse asked why × (new ≡ old)
+Decides old session asked (pages_full n heavy) new =
+    IsAsked old asked × IfSome old.base (λ base. (refusal_of base asked ≡ None) × (heavy ≡ asked_weight base asked))
+    × IfSome old.in_use (λ m. n ≡ m) × (heavy ≤ MAX_WEIGHT) × (MAX_PAGES < n + heavy) × (new ≡ old)
+Decides old session asked (log_full need room) new =
+    IsAllowed old asked × IfSome (need_told old.base asked) (λ n. need ≡ n)
+    × IfSome old.base (λ base. old.limit ≡ Some room)
+    × IfSome old.limit (λ n. room ≡ n) × (room < need) × (new ≡ old)
+Decides old session asked fault new =
+    IsGranted old asked
+    × ((rids : List Rid) × AreFresh old asked rids × Breaks old (entry_by session asked rids) new)
+Decides old session asked device new = IsAsked old asked × (new ≡ old)
+Decides old session asked (busy turn) new = IsAsked old asked × IsTurn turn × (new ≡ old)
+Decides old session asked (damaged page) new = IsAsked old asked × (old.base ≡ None) × (new ≡ old)
+Decides old session asked no_memory new = new ≡ old
 
 -- A keeper that tells its base tells its feed too, and one that also tells the opening's base has come to its own by
 -- the feed.

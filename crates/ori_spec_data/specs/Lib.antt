@@ -6,6 +6,8 @@ pub mod Apply
 pub mod Sizes
 pub mod Weighing
 pub mod Refusing
+pub mod Schemas
+pub mod Asked
 pub mod Views
 pub mod Soundness
 pub mod Histories
@@ -13,4 +15,9 @@ pub mod Keeping
 pub mod Staging
 pub mod Records
 pub mod Replies
+pub mod Limits
 pub mod Numbers
+pub mod Order
+pub mod Fit
+pub mod Keys
+pub mod OrderLaws

@@ -39,7 +39,7 @@ pub data RefusalData : Type 0 where
   fault : RefusalData
   device : RefusalData
   damaged : ℕ → RefusalData
-  -- memory was wanting
+  -- out of memory
   no_memory : RefusalData
   busy : ℕ → RefusalData
   -- it can't be written yet

@@ -8,7 +8,7 @@ use Rattle.ori_bytes.specs.declared.rid.Rid.{Rid}
 use Rattle.ori_bytes.specs.declared.limits.TheConstants.{BASE_WEIGHT, CHANGE_WEIGHT, BYTES_PER_WEIGHT}
 use Rattle.ori_bytes.specs.declared.limits.TheConstants.{CHANGE_FEED_BYTES, DEFINITION_FEED_BYTES, PAGE_BYTES}
 use Rattle.ori_spec_data.specs.Base.{RecordData, BaseData, ChangeData, create, update, delete, touch, TxData, EntryData}
-use Rattle.ori_spec_data.specs.Base.{commit, define}
+use Rattle.ori_spec_data.specs.Base.{AskedData, asks_commit, asks_define, asked_in}
 use Rattle.ori_spec_data.specs.Apply.{fresh, renamings, relinked_fields}
 use Rattle.ori_spec_data.specs.Records.{record_at}
 use Rattle.ori_spec_data.specs.Sizes.{record_size}
@@ -70,9 +70,13 @@ abbrev pub changes_bytes : List ChangeData → ℕ
 changes_bytes [] = 0
 changes_bytes (c ∷ cs) = change_bytes c + changes_bytes cs
 
+-- the bytes of what is asked, which are those of its entry
+abbrev pub asked_bytes : AskedData → ℕ
+asked_bytes (asks_commit tx) = changes_bytes tx.changes
+asked_bytes (asks_define definition) = DEFINITION_FEED_BYTES
+
 abbrev pub entry_bytes : EntryData → ℕ
-entry_bytes (commit session tx rids) = changes_bytes tx.changes
-entry_bytes (define session definition) = DEFINITION_FEED_BYTES
+entry_bytes e = asked_bytes (asked_in e)
 
 abbrev pub feed_bytes : List EntryData → ℕ
 feed_bytes [] = 0

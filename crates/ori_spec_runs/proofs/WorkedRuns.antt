@@ -19,7 +19,9 @@ use Rattle.ori_spec_data.specs.Replies.{granted}
 use Rattle.ori_spec_texts.specs.Reply.{reply_text, history_text}
 use Rattle.ori_spec_runs.specs.Answer.{PlanData, plan_of, with_open, closed, one, whole}
 use Rattle.ori_spec_runs.specs.Answer.{asked_by, answered, turned, pending, meaning}
-use Rattle.ori_spec_runs.specs.Run.{RunData, run_start, cause, reply_on, entry_on}
+use Rattle.ori_spec_data.specs.Asked.{entry_on}
+use Rattle.ori_spec_data.specs.Limits.{FoundData}
+use Rattle.ori_spec_runs.specs.Run.{RunData, run_start, cause, reply_on}
 
 abbrev n : ℕ → Tree
 n k = integer (pos k)
@@ -88,17 +90,21 @@ temp_printed : reply_text 2 (granted (whole_row (record {
 unfolding escape_byte digits
 temp_printed = refl
 
+-- a base whose log has some room
+abbrev in_room : BaseData → FoundData
+in_room base = record { base = base; limit = Some 1000000 }
+
 abbrev run_one : RunData
-run_one = record (run_start base_one (Some 1000000)) {
-  history = entry_on initial_base 1 made_first
+run_one = record (run_start (in_room base_one)) {
+  history = entry_on initial_base 1 (asks_commit made_first)
       ∷ [];
-  feed = entry_on initial_base 1 made_first ∷ [];
+  feed = entry_on initial_base 1 (asks_commit made_first) ∷ [];
 }
 
 commits_one : meaning (view_of base_one) (with_open closed (Some of_one)) commits ≡ pending (whole of_one)
 commits_one = refl
 
-accepted : cause run_one of_one ≡ None
+accepted : cause run_one (asks_commit of_one) ≡ None
 unfolding groups_of
 accepted = refl
 
@@ -110,14 +116,14 @@ unfolding digits
 commit_printed = refl
 
 abbrev run_two : RunData
-run_two = record (run_start base_two (Some 1000000)) {
-  history = entry_on initial_base 1 made_first
-      ∷ entry_on base_one 1 of_one ∷ [];
-  feed = entry_on initial_base 1 made_first ∷ entry_on base_one 1 of_one ∷ [];
+run_two = record (run_start (in_room base_two)) {
+  history = entry_on initial_base 1 (asks_commit made_first)
+      ∷ entry_on base_one 1 (asks_commit of_one) ∷ [];
+  feed = entry_on initial_base 1 (asks_commit made_first) ∷ entry_on base_one 1 (asks_commit of_one) ∷ [];
 }
 
 -- the other's commit finds the record changed
-conflicts : cause run_two of_two ≡ Some (by_base (conflict first 1 (Some 2)))
+conflicts : cause run_two (asks_commit of_two) ≡ Some (by_base (conflict first 1 (Some 2)))
 unfolding groups_of
 conflicts = refl
 
@@ -134,7 +140,7 @@ history_printed = refl
 -- a record that was deleted meanwhile
 conflicts_gone : cause (record run_one {
   base = apply_tx base_one (record { changes = delete first 1 ∷ []; made = 0 });
-}) of_one ≡ Some (by_base (conflict first 1 None))
+}) (asks_commit of_one) ≡ Some (by_base (conflict first 1 None))
 unfolding groups_of
 conflicts_gone = refl
 
@@ -161,8 +167,8 @@ thrice = refl
 abbrev ninth : Rid
 ninth = record { cluster = negsuc 0; position = negsuc 8 }
 
-dangles : cause (run_start initial_base (Some 1000000)) (record
-    { changes = create (temporary 0) (codes "V") (pair (codes "a") (link ninth) no_pairs) ∷ []; made = 1 })
+dangles : cause (run_start (in_room initial_base)) (asks_commit (record
+    { changes = create (temporary 0) (codes "V") (pair (codes "a") (link ninth) no_pairs) ∷ []; made = 1 }))
     ≡ Some (by_base (breaks (temporary 0) (codes "a") temporary_link))
 unfolding groups_of
 dangles = refl

@@ -4,13 +4,13 @@ use Rattle.std.specs.Prelude.{replicate, get_or, set, Option, Some, None, option
 use Rattle.ori_bytes.specs.declared.rid.Rid.{Rid}
 use Rattle.ori_bytes.specs.declared.limits.TheConstants.{MAX_FEED_ENTRIES, MAX_FEED_BYTES, MAX_SESSIONS}
 use Rattle.ori_spec_data.specs.Value.{Fields}
-use Rattle.ori_spec_data.specs.Base.{BaseData, TxData, EntryData, commit, AskedData, asks_commit, asks_define}
-use Rattle.ori_spec_data.specs.Apply.{fresh, renamings, apply}
-use Rattle.ori_spec_data.specs.Weighing.{log_need}
-use Rattle.ori_spec_data.specs.Refusing.{refusal}
+use Rattle.ori_spec_data.specs.Base.{BaseData, EntryData, AskedData}
+use Rattle.ori_spec_data.specs.Apply.{renamings, apply}
+use Rattle.ori_spec_data.specs.Asked.{IsAskable, refusal_of, fresh_by, entry_on}
+use Rattle.ori_spec_data.specs.Limits.{FoundData, limit_after, limit_cause}
 use Rattle.ori_spec_data.specs.Views.{view_of}
-use Rattle.ori_spec_data.specs.Keeping.{bytes_with, left_after}
-use Rattle.ori_spec_data.specs.Replies.{RefusalData, by_base, feed_full, halted, fault, no_memory, unbuilt, log_full}
+use Rattle.ori_spec_data.specs.Keeping.{bytes_with}
+use Rattle.ori_spec_data.specs.Replies.{RefusalData, by_base, feed_full, halted, fault, no_memory, unbuilt}
 use Rattle.ori_spec_data.specs.Replies.{ReplyData, refused, granted}
 use Rattle.ori_spec_texts.specs.Statement.{StatementData, IsStatement, rows_at}
 use Rattle.ori_spec_texts.specs.Line.{LineData, statement, tries, step, StepData, flush, settle, checkpoint, reopen}
@@ -23,12 +23,10 @@ use Rattle.ori_spec_runs.specs.Answer.{MeaningData, answered, turned, pending, m
 -- ---- what a run has come to
 
 -- The base; the history, which is all entries in order; the feed, which is those since the last opening; the entries
--- whose own write
--- failed and whose fate an opening has decided since, each with the length that the history had; the entry whose own
--- write failed
--- since the last opening; whether commits have ended since it, with the number of calls of the volume that had failed
--- then; the
--- bytes that the log has room for, where it has such a limit; and what is kept of each session, from 1 on.
+-- whose own write failed and whose fate an opening has decided since, each with the length that the history had; the
+-- entry whose own write failed since the last opening; whether commits have ended since it, with the number of calls of
+-- the volume that had failed then; the room of a log that is never emptied; and what is kept of each session, from 1
+-- on.
 pub record RunData : Type 0 where
   pub base : BaseData
   pub history : List EntryData
@@ -39,15 +37,16 @@ pub record RunData : Type 0 where
   pub limit : Option ℕ
   pub sessions : List SessionData
 
-abbrev pub run_start : BaseData → Option ℕ → RunData
-run_start base limit = record {
-  base = base;
+-- a run begins with what an opening finds
+abbrev pub run_start : FoundData → RunData
+run_start found = record {
+  base = found.base;
   history = [];
   feed = [];
   failed = [];
   doubt = None;
   halted = None;
-  limit = limit;
+  limit = found.limit;
   sessions = replicate MAX_SESSIONS closed;
 }
 
@@ -73,22 +72,18 @@ abbrev pub first_of : Option RefusalData → Option RefusalData → Option Refus
 first_of (Some why) other = Some why
 first_of None other = other
 
-abbrev pub feed_cause : List EntryData → TxData → Option RefusalData
-feed_cause feed tx =
-    if nat_le MAX_FEED_ENTRIES (length feed) || nat_lt MAX_FEED_BYTES (bytes_with feed tx)
-    then Some (feed_full (length feed) (bytes_with feed tx)) else None
+abbrev pub feed_cause : List EntryData → AskedData → Option RefusalData
+feed_cause feed asked =
+    if nat_le MAX_FEED_ENTRIES (length feed) || nat_lt MAX_FEED_BYTES (bytes_with feed asked)
+    then Some (feed_full (length feed) (bytes_with feed asked)) else None
 
--- the log has no room, where its room is limited
-abbrev pub limit_cause : Option ℕ → TxData → Option RefusalData
-limit_cause None tx = None
-limit_cause (Some room) tx = if nat_lt room (log_need tx) then Some (log_full (log_need tx) room) else None
-
--- Why a transaction is refused, where it is: commits have ended; the feed is full; the base refuses it; the log has no
+-- Why what is asked is refused, where it is: commits have ended; the feed is full; the base refuses it; the log has no
 -- room.
-abbrev pub cause : RunData → TxData → Option RefusalData
-cause run tx =
+abbrev pub cause : RunData → AskedData → Option RefusalData
+cause run asked =
     first_of (option_map halted run.halted)
-    (first_of (feed_cause run.feed tx) (first_of (option_map by_base (refusal run.base tx)) (limit_cause run.limit tx)))
+    (first_of (feed_cause run.feed asked)
+    (first_of (option_map by_base (refusal_of run.base asked)) (limit_cause run.limit run.base asked)))
 
 -- the rows of new records, as they stand in the base
 abbrev pub rows_of_new : BaseData → List Rid → List Fields
@@ -96,51 +91,43 @@ rows_of_new base [] = []
 rows_of_new base (rid ∷ rids) = rows_at base.stored rid ++ rows_of_new base rids
 
 -- the reply to what was accepted, over the base that it makes: a statement's new records and its count; or a
--- transaction's temporary
--- identifiers beside those that they became, and the number of its changes
+-- transaction's temporary identifiers beside those that they became, and the number of its changes
 abbrev pub reply_on : BaseData → List Rid → PendingData → ReplyData
 reply_on base rids (one plan) = granted (rows_of_new base rids) plan.count
 reply_on base rids (whole tx) = record { rows = []; temps = renamings tx.changes rids; told = Ok (length tx.changes) }
 reply_on base rids (schema definition) = granted [] 1
 
--- the entry that a session's transaction makes of a base
-abbrev pub entry_on : BaseData → ℕ → TxData → EntryData
-entry_on base session tx = commit session tx (fresh base tx)
-
--- An entry is accepted and joins the history.
-pub record Accepts (old : RunData) (session : ℕ) (p : PendingData) (entry : EntryData) (rids : List Rid)
-    (reply : ReplyData)
+-- The entry of what was asked is accepted and joins the history.
+pub record Accepts (old : RunData) (session : ℕ) (p : PendingData) (entry : EntryData) (reply : ReplyData)
     (new : RunData) : Type 0 where
-  pub reply_is : reply ≡ reply_on (apply old.base entry) rids p
+  pub reply_is : reply ≡ reply_on (apply old.base entry) (fresh_by old.base (asked_by p)) p
   pub new_is : new ≡ record (left_by old session p) {
     base = apply old.base entry;
     history = old.history ++ entry ∷ [];
     feed = old.feed ++ entry ∷ [];
-    limit = option_map (left_after entry) old.limit;
+    limit = limit_after old.base (asked_by p) old.limit;
   }
 
--- A write failed. Where it was the entry's own in the log, the entry may have been made or not, and commits have ended.
+-- A write failed. All is as before, or commits have ended and the entry is in doubt: it may have been made or not.
 pub record Fails (old : RunData) (session : ℕ) (p : PendingData) (entry : EntryData) (reply : ReplyData)
     (new : RunData) : Type 0 where
   pub reply_is : reply ≡ refused fault
   pub halted_by : Option ℕ
   pub left_open : Option EntryData
   pub new_is : new ≡ record (left_by old session p) { halted = halted_by; doubt = left_open }
-  pub doubt_is : (left_open ≡ old.doubt) ⊎ ((left_open ≡ Some entry) × IsSome halted_by)
+  pub doubt_is :
+      ((left_open ≡ old.doubt) × (halted_by ≡ old.halted)) ⊎ ((left_open ≡ Some entry) × IsSome halted_by)
 
-abbrev pub DecidesBy : RunData → ℕ → PendingData → TxData → Option RefusalData → ReplyData → RunData → Type 0
-DecidesBy old session p tx (Some why) reply new = (reply ≡ refused why) × (new ≡ left_by old session p)
-DecidesBy old session p tx None reply new =
-    Accepts old session p (entry_on old.base session tx) (fresh old.base tx) reply new
-    ⊎ Fails old session p (entry_on old.base session tx) reply new
+abbrev pub DecidesBy : RunData → ℕ → PendingData → Option RefusalData → ReplyData → RunData → Type 0
+DecidesBy old session p (Some why) reply new = (reply ≡ refused why) × (new ≡ left_by old session p)
+DecidesBy old session p None reply new =
+    Accepts old session p (entry_on old.base session (asked_by p)) reply new
+    ⊎ Fails old session p (entry_on old.base session (asked_by p)) reply new
 
--- what is asked is decided on the base as it is; no schema change can be asked yet
-abbrev pub DecidesAsked : RunData → ℕ → PendingData → AskedData → ReplyData → RunData → Type 0
-DecidesAsked old session p (asks_commit tx) reply new = DecidesBy old session p tx (cause old tx) reply new
-DecidesAsked old session p (asks_define definition) reply new = ⊥
-
+-- what is pending can be asked, and is decided on the base as it is
 abbrev pub Decides : RunData → ℕ → PendingData → ReplyData → RunData → Type 0
-Decides old session p reply new = DecidesAsked old session p (asked_by p) reply new
+Decides old session p reply new =
+    IsAskable (asked_by p) × DecidesBy old session p (cause old (asked_by p)) reply new
 
 -- ---- lines
 
@@ -157,7 +144,7 @@ Tells old session text reply new =
     × Replies old session (meaning (view_of old.base) (session_of old session) s) reply new)
     ⊎ (((s : StatementData) → IsStatement text s → ⊥) × (reply ≡ refused unbuilt) × (new ≡ old))
 
--- Want of memory may take the place of any reply to a session, and leaves all as it was.
+-- Out of memory may take the place of any reply to a session, and leaves all as it was.
 abbrev pub TellsOrNot : RunData → ℕ → List ℕ → ReplyData → RunData → Type 0
 TellsOrNot old session text reply new = Tells old session text reply new ⊎ ((reply ≡ refused no_memory) × (new ≡ old))
 

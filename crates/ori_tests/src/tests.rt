@@ -1,13 +1,13 @@
 // Tests by subject.
-mod copies;
 mod crashes;
 mod decisions;
+mod entries;
 mod faults;
 mod fronts;
 mod numbers;
 mod records;
 mod runs;
+mod shared;
 mod texts;
-mod transactions;
 mod values;
 mod volumes;

@@ -1,5 +1,5 @@
 -- Each line is given before more is read.
-use Rattle.std.proofs.Common.{◌≡◌, ℕ, ◌+◌, false, List, [], ◌∷◌, ◌++◌, length, refl, sym, ◌∙◌, ap, subst, inl, inr}
+use Rattle.std.proofs.Common.{◌≡◌, ℕ, ◌+◌, false, List, [], ◌∷◌, ◌++◌, length, refl, sym, ◌∙◌, subst, inl, inr}
 use Rattle.std.proofs.Common.{IsTrue, Result, Ok}
 use Rattle.std.specs.Prelude.{◌⊎◌}
 use Rattle.std.proofs.lemmas.Bool.{both_ways}
@@ -10,7 +10,7 @@ use Rattle.ori_text.specs.declared.line.Step.{Step}
 use Rattle.ori_text.specs.declared.line.Step.TheVariants as steps
 use Rattle.ori_text.specs.Lines.{Reading, AreWhole, Advances}
 use Rattle.ori_text.specs.LineReading.{HoldsPart}
-use Rattle.ori_text.specs.LineSteps.{TakesFront, HasNoFront, HoldsNoLine, IsPrompt, IsPromptStep}
+use Rattle.ori_text.specs.LineSteps.{TakesFront, HoldsNoLine, IsPrompt, IsPromptStep}
 use Rattle.ori_text.proofs.Readings.{no_advance, advance_more, reads_short}
 use Rattle.ori_text.proofs.StepLemmas.{advances_by_one}
 
@@ -76,10 +76,6 @@ prompt_last s t u a b c r so_far step = elim so_far [
 
 -- ---- steps
 
-pub prompt_where_over : {S : Type 0} (source : S) (old new : Reading) (r : Result Step LineFault)
-    → (r ≡ Ok steps.Further → ⊥) → IsPromptStep source source old new r
-prompt_where_over source old new r other = inl (record { same = refl; further = λ e. absurd (other e) })
-
 pub prompt_skipped : {S : Type 0} (source : S) (old new : Reading) → (line : List ℕ) × TakesFront old new line
     × IsTaken line new.given × IsTrue (is_skipped line) → IsPromptStep source source old new (Ok steps.Further)
 prompt_skipped source old new h =
@@ -92,8 +88,3 @@ prompt_skipped source old new h =
             (inl (taken, h.3, (refl, refl))),
       );
     })
-
-pub prompt_read : {S : Type 0} (s t : S) (old mid new : Reading) (r : Result Step LineFault) → mid ≡ old
-    → HasNoFront mid → mid.ended ≡ false → IsPromptStep s t old new r
-prompt_read s t old mid new r same none going =
-    inr (subst (λ (x : Reading). HoldsPart x) same none.part, sym (ap (λ (x : Reading). x.ended) same) ∙ going)

@@ -218,17 +218,6 @@ reads_more left_old left_new buffer moved_buffer new_buffer start end count give
       ];
     }
 
-pub step_further : (left_old left_new : Option (List ℕ)) (old mid new : Reading) → mid ≡ old
-    → old.given ≤ MAX_INPUT_BYTES → mid.ended ≡ false → ReadsMore left_old left_new mid new
-    → length new.held ≤ BUFFER_BYTES
-    → GoesFurther left_old left_new old new
-step_further left_old left_new old mid new same within going h bounded =
-    let s = step_read left_old left_new mid new (subst (λ (r : Reading). r.given ≤ MAX_INPUT_BYTES) (sym same) within)
-    going h in
-    let there : GoesFurther left_old left_new mid new =
-    record { moves = s.0; within = s.1; further = s.2; bounded = bounded } in
-    subst (λ r. GoesFurther left_old left_new r new) same there
-
 -- ---- steps after one another
 
 -- where reading stands between two steps

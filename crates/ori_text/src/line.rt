@@ -150,11 +150,22 @@ impl LineReader {
         ensures later { S.faults source.old ≤ S.faults source.new }
     {
         match self.take_line(alloc) {
-            Ok(Taken::Said(line)) => return Ok(Step::Said(line)),
-            Ok(Taken::Skipped) => return Ok(Step::Further),
-            Ok(Taken::Nothing) => {}
-            Err(fault) => return Err(fault),
+            Ok(Taken::Said(line)) => Ok(Step::Said(line)),
+            Ok(Taken::Skipped) => Ok(Step::Further),
+            Ok(Taken::Nothing) => self.go_on(source),
+            Err(fault) => Err(fault),
         }
+    }
+
+    // Reads more, unless the input has ended. Nothing that is held is a line yet.
+    fn go_on<S: Source>(&mut self, source: &mut S) -> Result<Step, LineFault>
+        requires within { self.old.given ≤ MAX_INPUT_BYTES }
+        requires part { HasNoFront self.old }
+        ensures step { IsStep (S.left source.old) (S.left source.new) (S.faults source.old) (S.faults source.new)
+            self.old self.new result }
+        ensures prompt { IsPromptStep source.old source.new self.old self.new result }
+        ensures later { S.faults source.old ≤ S.faults source.new }
+    {
         if self.has_ended() {
             return Ok(Step::End);
         }

@@ -1,5 +1,5 @@
 // Replies as they are printed.
-ghost use Rattle.std.specs.Prelude.{◌≡◌, ◌++◌, ◌∷◌, [], IfOk, IsTrue, false, string_bytes, map, flat_map, decimal};
+ghost use Rattle.std.specs.Prelude.{◌≡◌, ◌++◌, ◌∷◌, [], IfOk, IsTrue, false, string_bytes, map, flat_map, codes, decimal};
 ghost use Rattle.ori_spec_texts.specs.Reply.{reply_text, answer_text, to_step, told_text};
 ghost use Rattle.ori_spec_texts.specs.Reply as spec;
 ghost use Rattle.ori_model.specs.Replies.{row_of, reply_of, refusal_of, told_of};
@@ -15,7 +15,14 @@ use std::alloc::Global;
 fn row_line(alloc: Global, session: u8, row: &Row) -> Result<String, NoMemory>
     ensures { IfOk result (λ s. string_bytes s ≡ spec.row_line session (row_of row.now)) }
 {
-    let json = row_json(alloc, row)?.into_string();
+    let json = row_json(alloc, row)?;
+    json_line(alloc, session, json.as_str())
+}
+
+// The line of a row that is this as JSON.
+fn json_line(alloc: Global, session: u8, json: &str) -> Result<String, NoMemory>
+    ensures { IfOk result (λ s. string_bytes s ≡ decimal session ++ codes " ROW " ++ json.now ++ 10 ∷ []) }
+{
     Ok(format!(in alloc; "{session} ROW {json}\n")?)
 }
 
@@ -73,23 +80,31 @@ fn fronts_string(alloc: Global, read: u64, commit: Option<u64>) -> Result<String
     }
 }
 
+// The lines of a reply to a session, with these fronts at the end of the last.
+fn ended_text(alloc: Global, session: u8, reply: &Reply, fronts: &str) -> Result<Text, NoMemory>
+    ensures { IfOk result (λ t. t ≡ flat_map (spec.row_line session) (reply_of reply.now).rows
+        ++ flat_map (spec.temp_line session) (reply_of reply.now).temps
+        ++ decimal session ++ 32 ∷ told_text (reply_of reply.now).told ++ fronts.now ++ 10 ∷ []) }
+{
+    let mut text = row_lines(alloc, session, reply.rows.as_slice())?;
+    let temps = temp_lines(alloc, session, reply.temps.as_slice())?;
+    let told = told_string(alloc, &reply.told)?;
+    text.push_str(format!(in alloc; "{temps}{session} {told}{fronts}\n")?.as_str())?;
+    Ok(Text::from_string(text))
+}
+
 /// The lines of a reply to a session: its rows as JSON, the temporary identifiers of a commit beside those that they
-/// became, and what it says at its end; with the fronts behind that where they are asked for.
+/// became, and what it says at its end; with the fronts after that where they are asked for.
 pub fn reply_text(alloc: Global, session: u8, reply: &Reply, fronts: bool) -> Result<Text, NoMemory>
     ensures plain { fronts ≡ false → IfOk result (λ t. t ≡ reply_text session (reply_of reply.now)) }
     ensures fronted { IsTrue fronts → IfOk result (λ t.
         t ≡ fronted_text session (reply_of reply.now) reply.now.read_front reply.now.commit_front) }
 {
-    let mut text = row_lines(alloc, session, reply.rows.as_slice())?;
-    let temps = temp_lines(alloc, session, reply.temps.as_slice())?;
-    let told = told_string(alloc, &reply.told)?;
     if !fronts {
-        text.push_str(format!(in alloc; "{temps}{session} {told}\n")?.as_str())?;
-        return Ok(Text::from_string(text));
+        return ended_text(alloc, session, reply, "");
     }
-    let behind = fronts_string(alloc, reply.read_front, reply.commit_front)?;
-    text.push_str(format!(in alloc; "{temps}{session} {told}{behind}\n")?.as_str())?;
-    Ok(Text::from_string(text))
+    let fronts = fronts_string(alloc, reply.read_front, reply.commit_front)?;
+    ended_text(alloc, session, reply, fronts.as_str())
 }
 
 /// The line of a step that was refused.

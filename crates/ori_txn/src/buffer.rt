@@ -142,8 +142,8 @@ impl TxBuffer {
     }
 
     /// Stages changes, all or none. Each new record has the next temporary identifier, and no other change names a
-    /// record that is deleted here, or a temporary identifier that isn't made here. Memory is also wanting for more
-    /// than 4294967295 temporary identifiers.
+    /// record that is deleted here, or a temporary identifier that isn't made here. It is out of memory, too, for
+    /// more than 4294967295 temporary identifiers.
     pub fn stage(&mut self, changes: &ChangeList) -> Result<(), NoMemory>
         requires { CanStage (tx_of self.old) (map change_of changes.now) }
         ensures ok { OnOk result (tx_of self.new ≡ staged (tx_of self.old) (map change_of changes.now)) }

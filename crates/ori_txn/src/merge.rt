@@ -3,7 +3,7 @@ ghost use Rattle.std.specs.Prelude.{◌≡◌, ◌+◌, ◌<◌, ◌≤◌, [], 
 ghost use Rattle.std.specs.Prelude.{position, is_some};
 ghost use Rattle.std.specs.List.{list_any};
 ghost use Rattle.indexmap.specs.IndexSet.{spare};
-ghost use Rattle.ori_spec_data.specs.Apply.{target, same_rid};
+ghost use Rattle.ori_spec_data.specs.Apply.{same_rid};
 ghost use Rattle.ori_spec_data.specs.Base.{update, delete};
 ghost use Rattle.ori_spec_data.specs.Staging.{merged, with_change};
 ghost use Rattle.ori_model.specs.Data.{change_of};
@@ -13,18 +13,6 @@ use indexmap::IndexSet;
 use ori_bytes::Rid;
 use ori_model::Change;
 use ori_value::FieldList;
-
-/// The identifier that a change names.
-pub fn target_of(change: &Change) -> Rid
-    ensures { result ≡ target (change_of change.now) }
-{
-    match change {
-        Change::Create { temp, .. } => *temp,
-        Change::Update { rid, .. } => *rid,
-        Change::Delete { rid, .. } => *rid,
-        Change::Touch { rid, .. } => *rid,
-    }
-}
 
 /// Where the identifiers have one.
 pub fn place_of(places: &IndexSet<Rid>, rid: Rid) -> Option<usize>
@@ -125,7 +113,7 @@ fn put(changes: &mut Vec<Change>, places: &mut IndexSet<Rid>, change: Change)
     ensures capacity { vec_capacity changes.new ≡ vec_capacity changes.old }
     ensures spare { spare places.old ≤ spare places.new + 1 }
 {
-    let rid = target_of(&change);
+    let rid = change.target();
     match place_of(places, rid) {
         Some(at) => merge_at(changes, places, at, change),
         None => {

@@ -5,7 +5,7 @@ ghost use Rattle.ori_spec_data.specs.Staging.{change_at};
 ghost use Rattle.ori_model.specs.Data.{change_of, tx_of};
 ghost use Rattle.ori_txn.specs.Places.{keys_of, named_each, lists-prop, AreBeside};
 
-use crate::merge::{place_of, target_of};
+use crate::merge::place_of;
 use indexmap::IndexSet;
 use ori_bytes::Rid;
 use ori_model::{Change, Tx};
@@ -59,7 +59,7 @@ fn first_of(changes: &[Change], rid: Rid) -> Option<&Change>
     ensures { option_map (λ c. change_of c.now) result ≡ change_at (map change_of changes.now) rid }
 {
     for change in changes {
-        if rid == target_of(change) {
+        if rid == change.target() {
             return Some(change);
         }
     }

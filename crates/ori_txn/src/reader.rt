@@ -119,21 +119,7 @@ fn new_record(change: &Change, rid: Rid) -> Result<Option<Stored>, NoMemory>
     ensures own { IfOk result (λ o. IfSome o (λ stored. (stored.rid ≡ rid) × HasOwnFields stored.fields)) }
     ensures found { IfOk result (λ o. option_map record_of o ≡ laid_over (Some (change_of change.now)) None) }
 {
-    match change {
-        Change::Create {
-            temp,
-            class,
-            fields,
-        } => Ok(Some(Stored {
-            rid: *temp,
-            version: 0,
-            class: class.copy()?,
-            fields: fields.copy()?,
-        })),
-        Change::Update { .. } => Ok(None),
-        Change::Delete { .. } => Ok(None),
-        Change::Touch { .. } => Ok(None),
-    }
+    change.created()
 }
 
 // A record that is there, as the change of its identifier shows it.

@@ -2,3 +2,11 @@ mod Gaps
 mod Orders
 mod Places
 mod Trees
+mod OrderCode
+mod OrderSame
+mod KeyLaws
+mod KeySteps
+mod Comparisons
+mod SetSteps
+mod HexSteps
+mod LinkSteps

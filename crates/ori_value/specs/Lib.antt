@@ -3,3 +3,6 @@ pub mod Nesting
 pub mod Places
 pub mod TreeCode
 pub mod View
+pub mod Comparing
+pub mod Kinds
+pub mod SetPlaces

@@ -5,15 +5,27 @@
 #![tactic(auto)]
 
 mod fields;
+mod fitting;
+mod hexadecimal;
+mod keys;
 mod kind;
+mod laws;
+mod links;
 mod lists;
+mod ranks;
 mod rid_fields;
+mod rid_sets;
+mod total_order;
 mod value;
 mod values;
 
 pub use fields::{FieldList, names_rise};
+pub use fitting::fit;
+pub use keys::{key_bytes, put_rid_key};
 pub use kind::Kind;
+pub use laws::{key_law, order_law};
 pub use lists::{KeyList, TextList};
 pub use rid_fields::{RidFieldList, link_names_rise};
+pub use total_order::order;
 pub use value::{Document, Value};
 pub use values::ValueList;

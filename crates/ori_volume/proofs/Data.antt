@@ -1,66 +1,9 @@
--- A change of what is kept of a file is that change of its data.
-use Rattle.std.proofs.Common.{◌≡◌, ℕ, ◌+◌, Bool, true, false, ◌||◌, ◌&&◌, min, max, nat_le, List, [], ◌∷◌, ◌++◌, length}
-use Rattle.std.proofs.Common.{take, Some, None, refl, sym, ◌∙◌, ap}
+-- One file of a disk, taken out and put in.
+use Rattle.std.proofs.Common.{◌≡◌, refl, sym, ◌∙◌, ap}
 use Rattle.ori_volume.specs.declared.file.FileNo.{FileNo}
 use Rattle.ori_volume.specs.declared.file.FileNo.TheVariants.{Master, LogA, LogB, Pages}
-use Rattle.ori_volume.specs.declared.span.Span.{Span}
-use Rattle.ori_volume.specs.declared.change.Change.{Change}
-use Rattle.ori_volume.specs.declared.change.Change.TheVariants.{Write, Cut, Sync, Keep}
-use Rattle.ori_volume.specs.Disk.{Four, of_file, with_file}
-use Rattle.ori_volume.specs.Effects.{changed, put}
-use Rattle.ori_volume.specs.Record.{in_span, in_spans, FileState, data_of, disk_of, respanned, after_change, changed_by}
-
-or-assoc : (a b c : Bool) → (a || b) || c ≡ a || (b || c)
-or-assoc true b c = refl
-or-assoc false b c = refl
-
-and-true : (a : Bool) → a && true ≡ a
-and-true true = refl
-and-true false = refl
-
-or-false : (a : Bool) → a || false ≡ a
-or-false true = refl
-or-false false = refl
-
-pub spans_more : (spans : List Span) (span : Span) (k : ℕ) → in_spans (spans ++ span ∷ []) k ≡ in_spans spans k
-    || in_span span k
-spans_more [] span k = or-false (in_span span k)
-spans_more (s ∷ spans) span k =
-    ap (λ (b : Bool). in_span s k || b) (spans_more spans span k)
-    ∙ sym (or-assoc (in_span s k) (in_spans spans k) (in_span span k))
-
-respanned_data : (state : FileState) (xs : List ℕ) (span : Span)
-    → data_of (respanned state xs span) ≡ changed (data_of state) xs (λ k. in_spans state.spans k || in_span span k)
-respanned_data state xs span = λ i. record {
-  bytes = xs;
-  loose = λ k. spans_more state.spans span k i;
-  least = min state.least (length xs);
-  greatest = max state.greatest (length xs);
-}
-
-pub changed_data : (change : Change) (state : FileState) → data_of (after_change change state) ≡ changed_by change
-    (data_of state)
-changed_data (Write at piece count) state =
-    respanned_data state (put state.bytes at piece.now) (record
-    { from = min at (length state.bytes); end = Some (at + count) })
-changed_data (Cut to keep) state = respanned_data state (take keep state.bytes) (record { from = to; end = None })
-    ∙ ap (λ (test : ℕ → Bool). changed (data_of state) (take keep state.bytes) (λ k. in_spans state.spans k || test k))
-    (λ i k. and-true (nat_le to k) i)
-changed_data Sync state = refl
-changed_data Keep state = refl
-
-pub of_disk : (states : Four FileState) (file : FileNo) → of_file (disk_of states) file ≡ data_of (of_file states file)
-of_disk states Master = refl
-of_disk states LogA = refl
-of_disk states LogB = refl
-of_disk states Pages = refl
-
-pub with_disk : (states : Four FileState) (file : FileNo) (state : FileState)
-    → disk_of (with_file states file state) ≡ with_file (disk_of states) file (data_of state)
-with_disk states Master state = refl
-with_disk states LogA state = refl
-with_disk states LogB state = refl
-with_disk states Pages state = refl
+use Rattle.ori_volume.specs.Disk.{Four, of_file, with_file, FileData, Disk, files_of}
+use Rattle.ori_volume.specs.Story.{ChangesFile}
 
 pub of_with : {T : Type 0} (four : Four T) (file : FileNo) (x : T) → of_file (with_file four file x) file ≡ x
 of_with four Master x = refl
@@ -73,3 +16,25 @@ with_of four Master = refl
 with_of four LogA = refl
 with_of four LogB = refl
 with_of four Pages = refl
+
+pub of_files : (disk : Disk) (file : FileNo) → of_file (files_of disk) file ≡ (of_file disk file).bytes
+of_files disk Master = refl
+of_files disk LogA = refl
+of_files disk LogB = refl
+of_files disk Pages = refl
+
+pub with_files : (disk : Disk) (file : FileNo) (f : FileData)
+    → files_of (with_file disk file f) ≡ with_file (files_of disk)
+    file f.bytes
+with_files disk Master f = refl
+with_files disk LogA f = refl
+with_files disk LogB f = refl
+with_files disk Pages f = refl
+
+pub no_change_here : {T : Type 0} (file : FileNo) (old new : Four T) → new ≡ old
+    → ChangesFile file (λ f g. g ≡ f) old new
+no_change_here {T} file old new is = record {
+  here = ap (λ (four : Four T). of_file four file) is;
+  elsewhere = is ∙ sym (with_of old file) ∙ ap (λ (x : T). with_file old file x)
+      (sym (ap (λ (four : Four T). of_file four file) is));
+}

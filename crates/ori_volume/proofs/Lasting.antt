@@ -10,8 +10,8 @@ use Rattle.ori_volume.specs.Disk.{of_file, with_file, FileData, Disk, Files, fil
 use Rattle.ori_volume.specs.Effects.{written, cut_to, synced, is_touched, TornBytes, IsLoosened, Torn, MaybeCut}
 use Rattle.ori_volume.specs.Story.{ChangesFile}
 use Rattle.ori_volume.specs.Runs.{EachImage, Lasts, CutOff, LastsCut}
-use Rattle.ori_volume.proofs.Data.{of_with, with_of}
-use Rattle.ori_volume.proofs.Told.{of_files, tears_torn, piece_tears, cuts_maybe, keep_cuts}
+use Rattle.ori_volume.proofs.Data.{of_with, with_of, of_files}
+use Rattle.ori_volume.proofs.Torn.{tears_torn, piece_tears, cuts_maybe, keep_cuts}
 
 -- a list by what stands at each place
 build : ℕ → (ℕ → ℕ) → List ℕ

@@ -1,13 +1,6 @@
 pub mod Pieces
-pub mod Bytes
-pub mod TakenBack
-pub mod Past
 pub mod Data
-pub mod Steps
-pub mod Told
-pub mod Moments
-pub mod Filled
-pub mod Picked
+pub mod Torn
 pub mod Lasting
 pub mod RunSteps
 pub mod Known

@@ -73,3 +73,15 @@ MaybeCutBytes to old new = (new ≡ old) ⊎ (new ≡ take to old)
 pub record MaybeCut (to : ℕ) (old new : FileData) : Type 0 where
   pub maybe : MaybeCutBytes to old.bytes new.bytes
   pub loosened : IsLoosened (λ k. nat_le to k) old new
+
+-- A volume may tell exactly which positions a failed call has made loose: those of before and all that it reached.
+abbrev pub LoosensAll : (ℕ → Bool) → FileData → FileData → Type 0
+LoosensAll reached f g = g ≡ changed f g.bytes (λ k. f.loose k || reached k)
+
+pub record Tears (at count : ℕ) (f g : FileData) : Type 0 where
+  pub torn : TornBytes at count f.bytes g.bytes
+  pub loosened : LoosensAll (is_touched (length f.bytes) at count) f g
+
+pub record MaybeCuts (to : ℕ) (f g : FileData) : Type 0 where
+  pub maybe : MaybeCutBytes to f.bytes g.bytes
+  pub loosened : LoosensAll (λ k. nat_le to k) f g

@@ -1,13 +1,6 @@
 pub mod Causes
-pub mod Crashes
 pub mod Disk
-pub mod DiskStates
 pub mod Effects
-pub mod Memory
-pub mod Record
 pub mod Runs
-pub mod States
 pub mod Story
 pub mod Streams
-pub mod VolumeLaws
-pub mod VolumeStates

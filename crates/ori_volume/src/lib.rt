@@ -6,26 +6,14 @@
 //! Nothing else is known of a failure's reason.
 #![tactic(auto)]
 
-mod change;
-mod draws;
 mod failed;
 mod file;
 mod gate;
-mod image;
-mod memory_disk;
-mod memory_file;
-mod memory_streams;
-mod memory_volume;
-mod note;
-mod span;
 mod streams;
 mod volume;
 
 pub use failed::Failed;
 pub use file::FileNo;
 pub use gate::{Gate, GateStep, NoGate};
-pub use image::Image;
-pub use memory_streams::{MemSink, MemSource};
-pub use memory_volume::MemVolume;
 pub use streams::{Sink, Source};
 pub use volume::Volume;

@@ -7,23 +7,29 @@
 ghost use Rattle.std.specs.Prelude.{◌≡◌};
 ghost use Rattle.std.specs.IoError.{error_kind};
 
+mod disk_file;
+mod ending;
 mod files;
+mod folder;
 mod orient;
 mod streams;
 #[cfg(test)]
 mod tests;
 
+use ending::{say_unopened, say_why};
 use files::FileVolume;
 use ori_script::status;
 use ori_volume::NoGate;
 use std::env;
-use std::io::{self, ErrorKind};
+use std::io::{self, ErrorKind, Stdin};
 use std::process::ExitCode;
-use streams::{StdSink, StdSource};
+use streams::{StdSink, StdSource, hold_standard_streams};
 
-const USAGE: &str = "usage: orient_run <folder> script | load <n> | check | sessions";
+const USAGE: &str = "usage: orient_run <folder> script";
 
-// The status of what failed before the top call, or that of want of memory where that was the cause.
+const VERSION: &str = "0.2.0";
+
+// The status of what failed before the top call, or that of being out of memory where that was the cause.
 fn fault_status(error: &io::Error, other: u8) -> u8
     ensures memory { error_kind error.now ≡ ErrorKind.OutOfMemory → result ≡ 2 }
     ensures other { (error_kind error.now ≡ ErrorKind.OutOfMemory → ⊥) → result ≡ other }
@@ -34,16 +40,53 @@ fn fault_status(error: &io::Error, other: u8) -> u8
     }
 }
 
-// The status of a command over a folder.
+// Whether a word can be a folder's: no option is.
+fn is_folder(word: &str) -> bool {
+    !word.is_empty() && !word.starts_with('-')
+}
+
+// Opens standard input and a folder for the run of a command. No file that is opened becomes a standard stream.
+fn open(rt: &HostRuntime, folder: &str) -> io::Result<(StdSource<Stdin>, FileVolume)> {
+    hold_standard_streams(rt)?;
+    let source = StdSource::new(rt.alloc(), rt.stdin())?;
+    Ok((source, FileVolume::open(rt, folder)?))
+}
+
+// The status of a command over a folder. At other words than a command's nothing is opened.
 fn command(rt: &HostRuntime, folder: &str, words: &[String]) -> u8 {
-    let volume = match FileVolume::open(rt, folder) {
-        Ok(volume) => volume,
-        Err(error) => return fault_status(&error, status::VOLUME_FAILED),
+    if !is_folder(folder) || !orient::is_script_words(words) {
+        return status::WRONG_WORDS;
+    }
+    let (mut source, volume) = match open(rt, folder) {
+        Ok(opened) => opened,
+        Err(error) => {
+            say_unopened(rt, folder, &error);
+            return fault_status(&error, status::VOLUME_FAILED);
+        }
     };
-    let mut source = StdSource::new(rt.stdin());
     let mut sink = StdSink::new(rt.stdout());
     let outcome = orient::orient(rt.alloc(), words, volume, &mut source, &mut sink, &NoGate);
-    outcome.status
+    let status = outcome.status;
+    say_why(rt, folder, source.line(), outcome);
+    status
+}
+
+// Prints a line that was asked for.
+fn print_line(rt: &HostRuntime, line: &str) -> u8 {
+    match println!(rt; "{line}") {
+        Ok(()) => status::INPUT_ENDED,
+        Err(_) => status::SINK_FAILED,
+    }
+}
+
+// The status of the words after the program's own.
+fn words_status(rt: &HostRuntime, words: &[String]) -> u8 {
+    match words {
+        [word] if word.as_str() == "--help" => print_line(rt, USAGE),
+        [word] if word.as_str() == "--version" => print_line(rt, VERSION),
+        [folder, words @ ..] => command(rt, folder.as_str(), words),
+        [] => status::WRONG_WORDS,
+    }
 }
 
 // The status of the whole command line.
@@ -55,8 +98,8 @@ fn command_line(rt: &HostRuntime) -> u8 {
     let words: Result<Vec<String>, _> = args.collect(rt.alloc());
     match words {
         Ok(words) => match words.as_slice() {
-            [_, folder, words @ ..] => command(rt, folder.as_str(), words),
-            _ => status::WRONG_WORDS,
+            [_, words @ ..] => words_status(rt, words),
+            [] => status::WRONG_WORDS,
         },
         Err(_) => status::NO_MEMORY,
     }

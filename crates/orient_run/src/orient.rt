@@ -9,8 +9,8 @@ use ori_script::{no_report, run_script, status};
 use ori_volume::{Gate, Sink, Source, Volume};
 use std::alloc::Global;
 
-// Whether the words are the one word `script`.
-fn is_script_words(words: &[String]) -> bool
+/// Whether the words are the one word `script`.
+pub fn is_script_words(words: &[String]) -> bool
     ensures { result ≡ is_script (map (λ w. string_bytes w) words.now) }
 {
     match words {
@@ -24,7 +24,7 @@ fn is_script_words(words: &[String]) -> bool
 ///
 /// The one command so far is `script`. The volume is opened: the files of an empty one are made, and of another the log
 /// is read. Then lines are read and answered one after the other, each before the next is read. The status is 0 at the
-/// end of the input; 1 for other words, before any call; 2 where memory is wanting outside a statement; 3 where the
+/// end of the input; 1 for other words, before any call; 2 where it is out of memory outside a statement; 3 where the
 /// source failed, 4 the sink, 5 the volume while it was opened; 6 where its files aren't those of a database; 8 at a
 /// line that is none of the forms; 9 at the line in which the first byte past 2^30 lies.
 pub fn orient_alone<V: Volume, S: Source, K: Sink>(

@@ -1,8 +1,7 @@
-// The adapters over real files and streams.
+// The adapter over real files.
 use crate::files::FileVolume;
-use crate::streams::{StdSink, StdSource};
-use ori_text::print;
-use ori_volume::{Failed, FileNo, Sink, Source, Volume};
+use ori_volume::{Failed, FileNo, Volume};
+use std::os::unix::fs::symlink;
 use std::test::Fail;
 use std::{env, fs, process};
 
@@ -22,6 +21,7 @@ fn change(volume: &mut FileVolume) -> Result<(u64, u64), Failed> {
     volume.cut(FileNo::LogA, 8)?;
     volume.write_at(FileNo::Pages, 2, b"")?;
     volume.write_at(FileNo::LogB, 0, b"b")?;
+    volume.write_at(FileNo::Master, 0, b"m")?;
     volume.sync(FileNo::LogA)?;
     Ok((volume.moment(), volume.faults()))
 }
@@ -40,61 +40,74 @@ fn lengths(volume: &mut FileVolume) -> Result<[u64; 4], Failed> {
 fn real_files_keep_what_was_written(rt: HostRuntime) -> Result<(), Fail> {
     let path = folder(&rt, "volume")?;
     let mut volume = FileVolume::open(&rt, path.as_str())?;
-    assert_eq!(rt; change(&mut volume)?, (6, 0));
+    assert_eq!(rt; change(&mut volume)?, (7, 0));
     drop(volume);
     let mut again = FileVolume::open(&rt, path.as_str())?;
-    assert_eq!(rt; lengths(&mut again)?, [0, 6, 1, 2]);
-    let mut read = [9u8; 8];
-    again.read_at(FileNo::LogA, 0, &mut read)?;
-    assert_eq!(rt; read, *b"\0\0\0abc\0\0");
+    assert_eq!(rt; lengths(&mut again)?, [1, 6, 1, 2]);
+    let mut read = [9u8; 6];
+    again.read_at(FileNo::LogA, 2, &mut read)?;
+    assert_eq!(rt; read, *b"\0abc\0\0");
     fs::remove_dir_all(&rt, path.as_str())?;
     Ok(())
 }
 
-// A read from the middle, and the bytes under their names.
 #[test]
 fn files_stand_under_their_names(rt: HostRuntime) -> Result<(), Fail> {
     let path = folder(&rt, "names")?;
     let mut volume = FileVolume::open(&rt, path.as_str())?;
-    volume.write_at(FileNo::Master, 0, b"m")?;
-    volume.write_at(FileNo::LogA, 0, b"log")?;
-    let mut read = [9u8; 2];
-    volume.read_at(FileNo::LogA, 1, &mut read)?;
-    assert_eq!(rt; read, *b"og");
-    let master = fs::read(&rt, format!(in rt.alloc(); "{path}/master")?.as_str())?;
-    assert_eq!(rt; master.as_slice(), b"m".as_slice());
+    change(&mut volume)?;
+    for (name, bytes) in [
+        ("master", "m"),
+        ("log_a", "\0\0\0abc"),
+        ("log_b", "b"),
+        ("pages", "\0\0"),
+    ] {
+        let read = fs::read(&rt, format!(in rt.alloc(); "{path}/{name}")?.as_str())?;
+        assert_eq!(rt; read.as_slice(), bytes.as_bytes());
+    }
     fs::remove_dir_all(&rt, path.as_str())?;
     Ok(())
 }
 
+// Whether a sync, a write, a cut and a sync of a file fail, one after the other.
+fn fails(volume: &mut FileVolume, file: FileNo) -> [bool; 4] {
+    [
+        volume.sync(file).is_err(),
+        volume.write_at(file, 0, b"x").is_err(),
+        volume.cut(file, 0).is_err(),
+        volume.sync(file).is_err(),
+    ]
+}
+
+// The null device takes what is written, and can't be synced.
 #[test]
-fn real_streams_carry_bytes(rt: HostRuntime) -> Result<(), Fail> {
-    let path = folder(&rt, "streams")?;
-    let name = format!(in rt.alloc(); "{path}/bytes")?;
-    let mut sink = StdSink::new(fs::File::create(&rt, name.as_str())?);
-    print(&mut sink, "some bytes")?;
-    let mut source = StdSource::new(fs::File::open(&rt, name.as_str())?);
-    let mut read = [0u8; 16];
-    assert_eq!(rt; source.read(&mut read), Ok(10));
-    assert_eq!(rt; &read[..10], b"some bytes".as_slice());
-    assert_eq!(rt; source.read(&mut read), Ok(0));
+fn a_file_takes_nothing_after_a_failed_sync(rt: HostRuntime) -> Result<(), Fail> {
+    let path = folder(&rt, "syncs")?;
+    symlink(
+        &rt,
+        "/dev/null",
+        format!(in rt.alloc(); "{path}/log_a")?.as_str(),
+    )?;
+    let mut volume = FileVolume::open(&rt, path.as_str())?;
+    volume.write_at(FileNo::LogA, 0, b"x")?;
+    assert_eq!(rt; fails(&mut volume, FileNo::LogA), [true; 4]);
+    assert_eq!(rt; (volume.faults(), volume.log_faults()), (4, 4));
+    assert_eq!(rt; fails(&mut volume, FileNo::LogB), [false; 4]);
     fs::remove_dir_all(&rt, path.as_str())?;
     Ok(())
 }
 
-// A file that was opened to be read takes nothing, and a folder gives nothing.
+// No file has a byte at a place that the system can't name.
 #[test]
-fn real_streams_fail(rt: HostRuntime) -> Result<(), Fail> {
-    let path = folder(&rt, "closed")?;
-    let name = format!(in rt.alloc(); "{path}/bytes")?;
-    drop(fs::File::create(&rt, name.as_str())?);
-    let mut closed = StdSink::new(fs::File::open(&rt, name.as_str())?);
-    assert_eq!(rt; (closed.write(b"x").is_err(), closed.faults()), (true, 1));
-    let mut source = StdSource::new(fs::File::open(&rt, path.as_str())?);
+fn a_read_that_fails_counts(rt: HostRuntime) -> Result<(), Fail> {
+    let path = folder(&rt, "reads")?;
+    let mut volume = FileVolume::open(&rt, path.as_str())?;
+    change(&mut volume)?;
     assert_eq!(rt;
-        (source.read(&mut [0]).is_err(), source.faults()),
-        (true, 1)
+        volume.read_at(FileNo::LogA, 1 << 63, &mut [0]).is_err(),
+        true
     );
+    assert_eq!(rt; (volume.faults(), volume.log_faults()), (1, 0));
     fs::remove_dir_all(&rt, path.as_str())?;
     Ok(())
 }

@@ -1,7 +1,8 @@
 // What a crash leaves of a run, opened again.
 use super::runs::{COMMIT_CALLS, OPENING_CALLS, RunResult, over};
 use ori_bytes::NoMemory;
-use ori_volume::{FileNo, Image, MemVolume};
+use ori_volmem::{Image, MemVolume};
+use ori_volume::FileNo;
 use std::alloc::Global;
 use std::test::Fail;
 

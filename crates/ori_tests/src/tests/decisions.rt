@@ -1,31 +1,24 @@
 // What a base says to transactions, and becomes by them.
 ghost use Rattle.std.specs.Prelude.{◌≡◌, ◌∷◌, [], IfOk, IfSome};
 ghost use Rattle.ori_spec_data.specs.Base.{initial_base};
+ghost use Rattle.ori_spec_data.specs.Base as spec;
 ghost use Rattle.ori_spec_data.specs.Apply.{IsFormed};
+ghost use Rattle.ori_spec_data.specs.Apply as applying;
 ghost use Rattle.ori_spec_data.specs.Histories.{IsLegalHistory};
 ghost use Rattle.ori_spec_data.specs.Soundness.{IsSoundBase};
 ghost use Rattle.ori_model.specs.Data.{schema_of, tx_of, base_of, entry_of};
 
+use super::shared::{FIRST, TEMP};
 use ori_bytes::{NoMemory, NumberList, Rid, RidList, Text};
 use ori_decide::{apply, fresh, overlay, refusal, replay};
 use ori_model::{
     BagNameList, Base, Change, ChangeList, Class, ClassList, Entry, EntryList, IndexDefList,
-    PropertyList, Schema, StoredList, Tx,
+    PropertyList, Refusal, Schema, StoredList, Tx,
 };
 use ori_text::step_refusal_text;
 use ori_value::{FieldList, Value};
 use std::alloc::Global;
 use std::test::Fail;
-
-const FIRST: Rid = Rid {
-    cluster: 1,
-    position: 0,
-};
-
-const TEMP: Rid = Rid {
-    cluster: -1,
-    position: -2,
-};
 
 fn schema(alloc: Global) -> Result<Schema, NoMemory>
     ensures { IfOk result (λ s. schema_of s ≡ initial_base.schema) }
@@ -84,36 +77,36 @@ fn creation(alloc: Global, class: &str) -> Result<Tx, NoMemory>
     Ok(Tx { changes, made: 1 })
 }
 
-// The entry of a transaction that the base doesn't refuse.
+// The entry of a transaction, with the identifiers that the base gives to its new records.
+fn commit(alloc: Global, base: &Base, tx: Tx) -> Result<Entry, NoMemory>
+    requires sound { IsSoundBase (base_of base.now) }
+    requires formed { IsFormed (tx_of tx) }
+    ensures { IfOk result (λ e. entry_of e ≡ spec.commit 1 (tx_of tx) (applying.fresh (base_of base.now) (tx_of tx))) }
+{
+    Ok(Entry::Commit {
+        session: 1,
+        fresh: fresh(alloc, base, &tx)?,
+        tx,
+    })
+}
+
+// That entry, where the base doesn't refuse it.
 fn accepted(alloc: Global, base: &Base, tx: Tx) -> Result<Option<Entry>, NoMemory>
     requires sound { IsSoundBase (base_of base.now) }
     requires formed { IsFormed (tx_of tx) }
     ensures { IfOk result (λ o. IfSome o (λ e. IsLegalHistory (base_of base.now) (entry_of e ∷ []))) }
 {
-    let entry = Entry::Commit {
-        session: 1,
-        fresh: fresh(alloc, base, &tx)?,
-        tx,
-    };
+    let entry = commit(alloc, base, tx)?;
     if refusal(alloc, base, &entry)?.is_some() {
         return Ok(None);
     }
     Ok(Some(entry))
 }
 
-// What an entry makes of a base, by itself and as a history.
-fn applied(alloc: Global, base: &Base, entry: Entry) -> Result<(Base, Base), NoMemory>
-    requires sound { IsSoundBase (base_of base.now) }
-    requires legal { IsLegalHistory (base_of base.now) (entry_of entry ∷ []) }
-{
-    let one = apply(alloc, base, &entry)?;
-    let mut history = EntryList::new(alloc);
-    history.push(entry)?;
-    Ok((one, replay(alloc, base, &history)?))
-}
+// Of the one record the identifier, the version and the link that it holds.
+type Only = Option<(Rid, u32, Rid)>;
 
-// The identifier of the one record, its version and the link that it holds.
-fn only(base: &Base) -> Option<(Rid, u32, Rid)> {
+fn only(base: &Base) -> Only {
     let [stored] = base.stored.as_slice() else {
         return None;
     };
@@ -123,36 +116,82 @@ fn only(base: &Base) -> Option<(Rid, u32, Rid)> {
     }
 }
 
-fn committed(alloc: Global) -> Result<Option<(Base, Base)>, NoMemory> {
+fn applied(alloc: Global, base: &Base, entry: &Entry) -> Result<Only, NoMemory>
+    requires sound { IsSoundBase (base_of base.now) }
+    requires legal { IsLegalHistory (base_of base.now) (entry_of entry.now ∷ []) }
+{
+    Ok(only(&apply(alloc, base, entry)?))
+}
+
+fn replayed(alloc: Global, base: &Base, entry: Entry) -> Result<Only, NoMemory>
+    requires sound { IsSoundBase (base_of base.now) }
+    requires legal { IsLegalHistory (base_of base.now) (entry_of entry ∷ []) }
+{
+    let mut history = EntryList::new(alloc);
+    history.push(entry)?;
+    Ok(only(&replay(alloc, base, &history)?))
+}
+
+fn both(alloc: Global, base: &Base, entry: Entry) -> Result<(Only, Only), NoMemory>
+    requires sound { IsSoundBase (base_of base.now) }
+    requires legal { IsLegalHistory (base_of base.now) (entry_of entry ∷ []) }
+{
+    let once = applied(alloc, base, &entry)?;
+    Ok((once, replayed(alloc, base, entry)?))
+}
+
+// The record that a commit makes, by itself and as a history.
+fn committed(alloc: Global) -> Result<Option<(Only, Only)>, NoMemory> {
     let base = initial(alloc)?;
-    let Some(entry) = accepted(alloc, &base, creation(alloc, "V")?)? else {
-        return Ok(None);
-    };
-    Ok(Some(applied(alloc, &base, entry)?))
+    match accepted(alloc, &base, creation(alloc, "V")?)? {
+        Some(entry) => Ok(Some(both(alloc, &base, entry)?)),
+        None => Ok(None),
+    }
 }
 
 #[test]
 fn a_commit_is_applied(rt: HostRuntime) -> Result<(), Fail> {
-    let alloc = rt.alloc();
-    let (one, replayed) = committed(alloc)?.ok_or("a refusal")?;
-    assert_eq!(rt; only(&one), Some((FIRST, 1, FIRST)));
-    assert_eq!(rt; only(&replayed), Some((FIRST, 1, FIRST)));
-    let shown = overlay(alloc, &initial(alloc)?, &creation(alloc, "V")?)?;
-    assert_eq!(rt; only(&shown), Some((TEMP, 0, TEMP)));
+    let record = Some((FIRST, 1, FIRST));
+    assert!(rt; committed(rt.alloc())? == Some((record, record)));
     Ok(())
+}
+
+// The record that a transaction shows.
+fn shown(alloc: Global) -> Result<Only, NoMemory> {
+    let base = initial(alloc)?;
+    let tx = creation(alloc, "V")?;
+    Ok(only(&overlay(alloc, &base, &tx)?))
+}
+
+#[test]
+fn a_transaction_is_laid_over(rt: HostRuntime) -> Result<(), Fail> {
+    assert!(rt; shown(rt.alloc())? == Some((TEMP, 0, TEMP)));
+    Ok(())
+}
+
+fn refused(alloc: Global, tx: Tx) -> Result<Option<Refusal>, NoMemory>
+    requires { IsFormed (tx_of tx) }
+{
+    let base = initial(alloc)?;
+    let entry = Entry::Commit {
+        session: 1,
+        tx,
+        fresh: RidList::new(alloc),
+    };
+    refusal(alloc, &base, &entry)
+}
+
+fn said(alloc: Global, why: &Option<Refusal>) -> Result<Text, NoMemory> {
+    match why {
+        Some(why) => step_refusal_text(alloc, why),
+        None => Text::from_str(alloc, "none"),
+    }
 }
 
 // The refusal of a new record of this class as it is printed, or none.
 fn told(alloc: Global, class: &str) -> Result<Text, NoMemory> {
-    let entry = Entry::Commit {
-        session: 1,
-        tx: creation(alloc, class)?,
-        fresh: RidList::new(alloc),
-    };
-    match refusal(alloc, &initial(alloc)?, &entry)? {
-        Some(why) => step_refusal_text(alloc, &why),
-        None => Text::from_str(alloc, "none"),
-    }
+    let why = refused(alloc, creation(alloc, class)?)?;
+    said(alloc, &why)
 }
 
 #[test]

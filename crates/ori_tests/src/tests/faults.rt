@@ -1,7 +1,8 @@
 // Runs in which a call of the source, the sink or the volume fails.
-use super::runs::{INSERT, OPENING_CALLS, numbers, over, run};
+use super::runs::{INSERT, OPENING_CALLS, over, run};
+use super::shared::numbers;
 use ori_bytes::{Blob, NoMemory};
-use ori_volume::{Image, MemVolume};
+use ori_volmem::{Image, MemVolume};
 use std::alloc::Global;
 use std::test::Fail;
 

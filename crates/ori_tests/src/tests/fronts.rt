@@ -1,10 +1,11 @@
 // Replies with the fronts at which they were read and decided.
-use super::runs::{OPENING_CALLS, numbers};
+use super::runs::OPENING_CALLS;
+use super::shared::numbers;
 use ori_bytes::{NoMemory, Text};
 use ori_engine::Engine;
 use ori_session::Session;
 use ori_text::reply_text;
-use ori_volume::MemVolume;
+use ori_volmem::MemVolume;
 use std::alloc::Global;
 use std::test::Fail;
 
@@ -103,16 +104,5 @@ fn failed_commits_carry_their_fronts(rt: HostRuntime) -> Result<(), Fail> {
         (1, "INSERT INTO V SET n = 0", "1 ERR Halted 1 @0 @0\n"),
     ];
     assert_eq!(rt; first_wrong(alloc, volume, &lines)?, None);
-    Ok(())
-}
-
-#[test]
-fn a_session_lets_its_transaction_go(rt: HostRuntime) -> Result<(), Fail> {
-    let alloc = rt.alloc();
-    let mut desk = new_desk(alloc, MemVolume::empty(alloc)).ok_or("no engine")?;
-    said(alloc, &mut desk, 1, "BEGIN")?;
-    assert!(rt; desk.one.in_transaction() && !desk.two.in_transaction());
-    desk.one.rollback();
-    assert!(rt; !desk.one.in_transaction());
     Ok(())
 }

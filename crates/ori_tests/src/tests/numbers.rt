@@ -40,8 +40,8 @@ fn varints(rt: HostRuntime) -> Result<(), Fail> {
     Ok(())
 }
 
-// What is read behind the byte that stands first.
-fn read_behind(bytes: &[u8]) -> Result<i64, ByteFault> {
+// What is read after the first byte.
+fn read_after(bytes: &[u8]) -> Result<i64, ByteFault> {
     let mut cursor = Cursor::new(bytes);
     cursor.take_u8()?;
     cursor.take_varint()
@@ -68,16 +68,20 @@ fn varint_faults(rt: HostRuntime) {
         ),
     ];
     for (bytes, fault) in faults {
-        assert_eq!(rt; read_behind(bytes), Err(fault));
+        assert_eq!(rt; read_after(bytes), Err(fault));
     }
+}
+
+// Numbers of two, four and eight bytes.
+fn numbers_of(bytes: &[u8]) -> Result<(u16, u32, u64), ByteFault> {
+    let mut cursor = Cursor::new(bytes);
+    Ok((cursor.take_u16()?, cursor.take_u32()?, cursor.take_u64()?))
 }
 
 #[test]
 fn the_high_byte_is_first(rt: HostRuntime) {
-    let mut cursor = Cursor::new(b"\x02\x03\x04\x05\x06\x07\x08\x09\x0a\x0b\x0c\x0d\x0e\x0f");
-    assert_eq!(rt; cursor.take_u16(), Ok(0x0203));
-    assert_eq!(rt; cursor.take_u32(), Ok(0x0405_0607));
-    assert_eq!(rt; cursor.take_u64(), Ok(0x0809_0a0b_0c0d_0e0f));
+    let bytes = b"\x02\x03\x04\x05\x06\x07\x08\x09\x0a\x0b\x0c\x0d\x0e\x0f";
+    assert!(rt; numbers_of(bytes) == Ok((0x0203, 0x0405_0607, 0x0809_0a0b_0c0d_0e0f)));
 }
 
 #[test]

@@ -1,8 +1,10 @@
 // Runs of scripts over a volume in memory.
-use ori_bytes::{Blob, NoMemory, NumberList};
+use super::shared::numbers;
+use ori_bytes::{Blob, NoMemory};
 use ori_model::Outcome;
 use ori_script::run_script;
-use ori_volume::{MemSink, MemSource, MemVolume, Source};
+use ori_volmem::{MemSink, MemSource, MemVolume};
+use ori_volume::Source;
 use std::alloc::Global;
 
 // What a run came to.
@@ -23,10 +25,6 @@ pub const INSERT: &[u8] = b"1 INSERT INTO V SET name = 'Ann'\n";
 pub const OPENING_CALLS: u64 = 15;
 
 pub const COMMIT_CALLS: u64 = 4;
-
-pub fn numbers(alloc: Global, items: &[u64]) -> Result<NumberList, NoMemory> {
-    Ok(NumberList::from_vec(Vec::from_slice(alloc, items)?))
-}
 
 // Runs a script over a volume, with these calls of the source and the sink failing.
 pub fn run(

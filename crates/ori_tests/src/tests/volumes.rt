@@ -1,11 +1,8 @@
-// The volume, the source and the sink in memory, by values worked out by hand, and a page.
-use super::runs::numbers;
-use ori_bytes::Blob;
+// The volume in memory, by values worked out by hand, and a page.
+use ori_bytes::{Blob, NoMemory};
 use ori_page::Page;
-use ori_volume::{
-    Failed, FileNo, Gate, GateStep, Image, MemSink, MemSource, MemVolume, NoGate, Sink, Source,
-    Volume,
-};
+use ori_volmem::{Image, MemVolume};
+use ori_volume::{Failed, FileNo, Volume};
 use std::alloc::Global;
 use std::test::Fail;
 
@@ -19,60 +16,44 @@ fn changed(alloc: Global) -> Result<MemVolume, Failed> {
     Ok(volume)
 }
 
-#[test]
-fn pages_change_as_on_a_disk(rt: HostRuntime) -> Result<(), Fail> {
-    let mut volume = changed(rt.alloc())?;
+// Five bytes from the front of Pages, as they are read.
+fn read_pages(volume: &mut MemVolume) -> Result<[u8; 5], Failed> {
     let mut read = [7; 5];
     volume.read_at(FileNo::Pages, 0, &mut read)?;
-    assert_eq!(rt; read, [0, 8, 9, 0, 0]);
-    assert_eq!(rt; volume.crash(0)?.pages.as_slice(), [0, 8, 9, 0].as_slice());
-    assert_eq!(rt; volume.crash(1)?.pages.as_slice(), [0, 0, 0].as_slice());
-    assert_eq!(rt;
-        (volume.moment(), volume.calls(), volume.wants()),
-        (4, 5, 0)
-    );
-    Ok(())
+    Ok(read)
+}
+
+// Whether this image of a crash has these bytes in Pages.
+fn leaves(volume: &MemVolume, pick: u64, pages: &[u8]) -> Result<bool, NoMemory> {
+    Ok(volume.crash(pick)?.pages.as_slice() == pages)
 }
 
 #[test]
-fn a_byte_of_a_crash_is_chosen(rt: HostRuntime) -> Result<(), Fail> {
-    let alloc = rt.alloc();
-    let mut volume = MemVolume::of_image(Image {
+fn pages_change_as_on_a_disk(rt: HostRuntime) -> Result<(), Fail> {
+    let mut volume = changed(rt.alloc())?;
+    assert!(rt; read_pages(&mut volume)? == [0, 8, 9, 0, 0]);
+    assert!(rt; leaves(&volume, 0, &[0, 8, 9, 0])? && leaves(&volume, 1, &[0, 0, 0])?);
+    assert!(rt; (volume.moment(), volume.calls(), volume.wants()) == (4, 5, 0));
+    Ok(())
+}
+
+fn image(alloc: Global) -> Result<Image, NoMemory> {
+    Ok(Image {
         master: Blob::from_slice(alloc, &[1])?,
         log_a: Blob::from_slice(alloc, &[2, 3])?,
         log_b: Blob::new(alloc),
         pages: Blob::from_slice(alloc, &[4, 5, 6])?,
-    });
+    })
+}
+
+#[test]
+fn a_byte_of_a_crash_is_chosen(rt: HostRuntime) -> Result<(), Fail> {
+    let mut volume = MemVolume::of_image(image(rt.alloc())?);
     volume.write_at(FileNo::LogA, 1, &[9])?;
     assert!(rt; volume.is_loose(FileNo::LogA, 1));
     let image = volume.crash_with(0, FileNo::LogA, 1, 200)?;
-    assert_eq!(rt; image.log_a.as_slice(), [2, 200].as_slice());
-    assert_eq!(rt; image.pages.as_slice(), [4, 5, 6].as_slice());
-    Ok(())
-}
-
-#[test]
-fn a_source_gives_its_bytes(rt: HostRuntime) -> Result<(), Fail> {
-    let alloc = rt.alloc();
-    let mut source = MemSource::of(Blob::from_slice(alloc, &[1, 2, 3])?, numbers(alloc, &[0])?);
-    let mut piece = [0; 2];
-    assert_eq!(rt; source.read(&mut piece), Err(Failed));
-    assert_eq!(rt; source.read(&mut piece), Ok(2));
-    assert_eq!(rt; piece, [1, 2]);
-    assert_eq!(rt; source.read(&mut piece), Ok(1));
-    assert_eq!(rt; source.read(&mut piece), Ok(0));
-    Ok(())
-}
-
-#[test]
-fn a_sink_takes_bytes(rt: HostRuntime) -> Result<(), Fail> {
-    let alloc = rt.alloc();
-    let mut sink = MemSink::empty(alloc, numbers(alloc, &[0])?);
-    assert_eq!(rt; sink.write(&[4]), Err(Failed));
-    assert_eq!(rt; sink.write(&[5, 6]), Ok(2));
-    assert_eq!(rt; sink.taken().as_slice(), [5, 6].as_slice());
-    assert_eq!(rt; (sink.faults(), sink.wants()), (1, 0));
-    NoGate.pass(GateStep::Flush { part: 0 });
+    assert!(rt; image.log_a.as_slice() == [2, 200].as_slice());
+    assert!(rt; image.pages.as_slice() == [4, 5, 6].as_slice());
     Ok(())
 }
 

@@ -61,10 +61,10 @@ returns-clause-found g c =
     let same = sym (ap (λ (l : List (Option Stored)). rows_of l) c.begin.ensures.rows) in
     let opened : IsOpened c.in_ok-pages.pages.items (rows_of c.begin.result.table.0) = subst (λ (l : List
     (Option RecordData)). IsOpened c.in_ok-pages.pages.items l) same c.in_ok-table.ensures.opened in
-    found_in (λ base room. IsStartedKept base room c.begin.result) _
+    found_in (λ found. IsStartedKept found c.begin.result) _
     (told_pages c.in-Ok.attached.0 c.in-Ok.attached.1 c.in_ok-pages.pages.items _ _ _
-    (λ fs now records attaches kept is. λ base room found. found_started fs now records c.in-Ok.attached.0
-    c.in-Ok.attached.1 attaches kept c.in_ok-pages.pages.items is c.begin.result base room
+    (λ fs now records attaches kept is. λ start found. found_started fs now records c.in-Ok.attached.0
+    c.in-Ok.attached.1 attaches kept c.in_ok-pages.pages.items is c.begin.result start
     c.begin.ensures.room c.begin.ensures.few opened found)
     c.in-Ok.ensures.value c.in-Ok.ensures.files c.in_ok-pages.ensures.value)
 

@@ -1,3 +1,6 @@
+use Rattle.std.proofs.Common.{Option, IfOk, IfSome, sym, subst}
+use Rattle.ori_log.specs.Appending.{StandsIn}
+use Rattle.ori_log.proofs.AttachStands.{made_stands_told}
 use Rattle.std.proofs.Common.{◌∙◌, List}
 use Rattle.ori_log.specs.Log.{ImageData}
 use Rattle.ori_volume.specs.Disk.{Files}
@@ -23,3 +26,8 @@ returns-clause-crash g c =
     (c.in_ok-sizes.ensures.files ∙ (g.met.V.Volume.tells_one c.args.volume.now a told).files_now)
     c.attach_made.ensures.value))
     c.in_ok-sizes.ensures.story c.attach_made.ensures.story
+
+pub returns-clause-stands : goal.returns-clause-stands
+returns-clause-stands g c =
+    subst (λ (o : Option Files). IfOk c.attach_made.result (λ pair. IfSome o (λ fs. StandsIn pair.0 fs)))
+    (sym c.attach_made.ensures.files) (made_stands_told c.attach_made.result _ c.attach_made.ensures.value)

@@ -9,8 +9,8 @@ use Rattle.ori_script.proofs.run.run_lines.Goals as goal
 pub lines-init : goal.lines-init
 lines-init g c = record {
   goes_on = λ files starts. started files _ _ _
-      (λ base room finds. record {
-        started = starts base room finds;
+      (λ found finds. record {
+        started = starts found finds;
         fresh = c.requires;
         first = refl;
         none_failed = refl;
@@ -30,8 +30,8 @@ returns-in_default-clause-run g c = λ files starts.
       sessions =
           replicate MAX_SESSIONS closed;
     })
-    (λ base room finds. record {
-      started = starts base room finds;
+    (λ found finds. record {
+      started = starts found finds;
       fresh = c.requires;
       first = refl;
       none_failed = refl;
@@ -46,8 +46,8 @@ returns-in_default-new-clause-run g c = λ files starts.
       sessions =
           replicate MAX_SESSIONS closed;
     })
-    (λ base room finds. record {
-      started = starts base room finds;
+    (λ found finds. record {
+      started = starts found finds;
       fresh = c.requires;
       first = refl;
       none_failed = refl;

@@ -1,7 +1,7 @@
-use Rattle.std.proofs.Common.{ℕ, ◌≤◌, ◌-◌, Option}
+use Rattle.std.proofs.Common.{◌≤◌, ◌-◌, Option}
 use Rattle.ori_bytes.specs.declared.limits.TheConstants.{MAX_INPUT_BYTES}
 use Rattle.ori_volume.specs.Disk.{Files}
-use Rattle.ori_spec_data.specs.Base.{BaseData}
+use Rattle.ori_spec_data.specs.Limits.{FoundData}
 use Rattle.ori_engine.specs.Openings.{Finds, IsStarted, StaysOpen}
 use Rattle.ori_script.specs.Keeping.{kept}
 use Rattle.ori_script.specs.Script.{GoesOn}
@@ -10,8 +10,8 @@ use Rattle.ori_script.proofs.run.run_lines.Given as goal
 -- all lines so far have their answers, and nothing was lost
 abbrev pub invariant-lines : goal.invariant-lines
 invariant-lines g l = record {
-  goes_on : (files : Option Files) → ((base : BaseData) (room : ℕ) → Finds files base room
-      → IsStarted base room (g.D.Reader.state l.initial.database))
+  goes_on : (files : Option Files)
+      → ((found : FoundData) → Finds files found → IsStarted found (g.D.Reader.state l.initial.database))
       → GoesOn files (g.S.Source.left l.initial.source) (g.S.Source.left l.source) (g.K.Sink.taken l.initial.sink)
       (g.K.Sink.taken l.sink) l.reader (kept g.D.Reader.state g.D.Reader.causes l.database l.sessions);
   stays : StaysOpen g.D.Reader.state g.D.Reader.sound l.initial.database l.database;

@@ -41,5 +41,5 @@ returns-clause-promises g c =
 
 pub returns-clause-no_words : goal.returns-clause-no_words
 returns-clause-no_words g c = λ one.
-    (end_of_run _ _ _ _ _ _ _ _ (c.run_lines-status.ensures.run None (λ base room none. absurd none)).run).no_words
+    (end_of_run _ _ _ _ _ _ _ _ (c.run_lines-status.ensures.run None (λ found none. absurd none)).run).no_words
     (sym c.outcome.ensures.status ∙ one)

@@ -9,7 +9,7 @@ use Rattle.ori_model.specs.Data.{change_of, tx_of}
 use Rattle.ori_model.specs.Decisions.{decision_of}
 use Rattle.ori_model.specs.Replies.{row_of}
 use Rattle.ori_session.specs.Sessions.{plan_data}
-use Rattle.ori_session.proofs.Given.{unnamed_length}
+use Rattle.ori_decide.proofs.Decisions.{unnamed_count}
 use Rattle.ori_session.proofs.Deciding.{decided_by, refusal_by, accepted_one, one_each, no_tx_formed}
 use Rattle.ori_session.proofs.committing.commit_plan.Goals as goal
 
@@ -28,7 +28,7 @@ accepted-requires g c =
     let decides = subst (λ (t : TxData). Decides (g.K.Reader.state c.args.keeper.now) c.args.session (asks_commit t)
     (decision_of (Ok c.in-Ok-commit.done)) (g.K.Reader.state c.commit.new.self)) (ap tx_of c.tx.ensures.value)
     c.in-Ok-commit.ensures.decided in
-    ap length c.in-Ok.ensures.pairs ∙ unnamed_length tx.changes
+    ap length c.in-Ok.ensures.pairs ∙ unnamed_count tx.changes
     ∙ sym (one_each _ _ c.args.session tx c.in-Ok-commit.done decides)
 
 pub returns-in-Ok-commit-clause-decided : goal.returns-in-Ok-commit-clause-decided

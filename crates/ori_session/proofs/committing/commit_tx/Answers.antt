@@ -6,7 +6,7 @@ use Rattle.ori_model.specs.declared.change.Tx.{Tx}
 use Rattle.ori_model.specs.Data.{change_of, tx_of}
 use Rattle.ori_model.specs.Decisions.{decision_of}
 use Rattle.ori_decide.specs.Renaming.{unnamed}
-use Rattle.ori_session.proofs.Given.{unnamed_length}
+use Rattle.ori_decide.proofs.Decisions.{unnamed_count}
 use Rattle.ori_session.proofs.Deciding.{decided_by, refusal_by, whole_reply, one_each}
 use Rattle.ori_session.proofs.committing.commit_tx.Goals as goal
 
@@ -25,7 +25,7 @@ accepted_whole-requires g c =
     let decides = subst (λ (t : Tx). Decides (g.K.Reader.state c.args.keeper.now) c.args.session (asks_commit (tx_of t))
     (decision_of (Ok c.in-Ok-commit.done)) (g.K.Reader.state c.commit.new.self)) c.tx-2.ensures.value
     c.in-Ok-commit.ensures.decided in
-    ap length pairs ∙ unnamed_length (map change_of c.args.buffer.now.changes)
+    ap length pairs ∙ unnamed_count (map change_of c.args.buffer.now.changes)
     ∙ sym (one_each _ _ c.args.session (tx_of c.args.buffer.now) c.in-Ok-commit.done decides)
 
 pub returns-in-Ok-commit-clause-decided : goal.returns-in-Ok-commit-clause-decided

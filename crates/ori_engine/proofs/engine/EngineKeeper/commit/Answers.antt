@@ -1,10 +1,11 @@
-use Rattle.std.proofs.Common.{◌<◌, refl, sym, subst, arith}
+use Rattle.std.proofs.Common.{◌≡◌, ◌<◌, None, refl, sym, subst, arith}
 use Rattle.ori_bytes.specs.declared.causes.Causes.{Causes}
 use Rattle.ori_volume.specs.Causes.{Rose}
 use Rattle.ori_decide.specs.Told.{told}
 use Rattle.ori_engine.specs.Openings.{opening_of}
 use Rattle.ori_engine.specs.States.{kept_of}
-use Rattle.ori_engine.proofs.Engines.{sound_on, halts_on, goes_on, inside_on, faulted_on, Inside}
+use Rattle.ori_engine.proofs.Engines.{sound_on, halts_on, goes_on, went_on, inside_on, Inside}
+use Rattle.ori_engine.proofs.Engines.{faulted_on, faultless_on}
 use Rattle.ori_engine.proofs.engine.EngineKeeper.commit.Goals as goal
 
 pub returns-in-Ok-clause-decided : goal.returns-in-Ok-clause-decided
@@ -35,6 +36,7 @@ invariant_of-self g c =
       halts = halts_on _ _ _ _ _ _ _ _ faults e.later e.log_later c.in-Ok.ensures.halts e.halts;
       goes_on = goes_on _ _ _ _ _ _ _ c.in-Ok.ensures.halts e.goes_on;
       faulted = λ some. let rose = e.faulted some in omega (arith, rose, faults);
+      faultless = λ none. e.faultless (went_on _ _ _ _ _ _ c.in-Ok.ensures.halts none);
       inside = e.inside;
     }
 
@@ -53,5 +55,8 @@ invariant_of-self-in-Err g c =
       faulted = subst (λ (causes : Causes). 0 < causes.fault
           → Rose e.opened.faults (g.V.Volume.faults c.commit.new.volume)) counted
           (faulted_on d e.causes _ _ _ e.later faults c.in-Err.ensures.fault_told e.faulted);
+      faultless = subst (λ (causes : Causes). c.commit.new.self.halted ≡ None → causes.fault ≡ 0) counted
+          (faultless_on d e.causes _ _ (λ is. (c.in-Err.ensures.ends is).0)
+          (went_on _ _ _ _ _ _ c.in-Err.ensures.halts) e.faultless);
       inside = subst Inside counted (inside_on d e.causes c.in-Err.ensures.inside e.inside);
     }

@@ -56,10 +56,14 @@ returns-in-Err g c =
     record {
       decided = λ opening. (
         granted c.args.self.now c.args.session tx c.args.prepared opening p (omega (arith, need, failed.0, room)),
-        record {
-          same = refl;
-          doubt = inr (rids, are_fresh c.args.self.now tx rids opening refl, ap Some p.entry_is, refl);
-        },
+        (
+          rids,
+          are_fresh c.args.self.now tx rids opening refl,
+          record {
+            same = refl;
+            doubt = inr (ap Some p.entry_is, refl);
+          },
+        ),
       );
       crash = tells_so _ _ _ _ (λ old now was is writes.
           doubted_safe (kept_of c.args.self.now) c.args.session tx c.args.prepared.staged
@@ -71,6 +75,7 @@ returns-in-Err g c =
       log_faults = c.in-Err.ensures.log_faults.later;
       halts = inr (p.asked.going, ap Some c.faults.ensures, rose, c.in-Err.ensures.log_faults.failed (ap Err failed.1));
       fault_told = λ is. rose;
+      ends = λ is. (refl, refl);
       inside = tt;
     }
 

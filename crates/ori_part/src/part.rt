@@ -1,0 +1,161 @@
+// A partition.
+ghost use Rattle.std.specs.Prelude.{◌≡◌, ◌≤◌, ◌<◌, ℕ, Some, None, IsSome, IsTrue, IfOk, IfSome, IfNone, OnOk};
+ghost use Rattle.std.specs.Prelude.{OnErr, option_copied, is_some, length, nat_eq, List};
+ghost use Rattle.ori_bytes.specs.declared.limits.TheConstants.{CLEAN_PAGES};
+ghost use Rattle.ori_part.specs.Parts.{no_pages, place_at, has_place, dirty_at, clean_at, content_at, looked};
+ghost use Rattle.ori_part.specs.Parts.{kept, reserved, installed, marked, unwritten_page, trimmed, is_dirty};
+ghost use Rattle.ori_part.specs.Parts.{first_unwritten};
+
+use crate::Place;
+use indexmap::IndexMap;
+use lru::LruCache;
+use ori_bytes::NoMemory;
+use ori_bytes::limits::CLEAN_PAGES;
+use ori_page::Page;
+use std::alloc::Global;
+use std::marker::Model;
+use std::num::NonZeroUsize;
+
+/// A partition of the cache: dirty pages, which are never let go before they are settled, and up to [`CLEAN_PAGES`]
+/// clean ones.
+#[derive(Drop)]
+pub struct Part {
+    places: IndexMap<u32, Place>,
+    clean: LruCache<u32, Page>,
+    // No place before this one is unwritten.
+    first: usize,
+}
+
+impl Model for Part {
+    ghost use Rattle.std.specs.Prelude.{◌≡◌, ◌≤◌};
+    ghost use Rattle.ori_bytes.specs.declared.limits.TheConstants.{CLEAN_PAGES};
+    ghost use Rattle.ori_part.specs.Parts.{PartData, first_unwritten};
+
+    ghost Value = { PartData };
+
+    ghost view = { λ p. record { places = p.places.entries; clean = p.clean.entries } };
+
+    ghost invariant = { λ p. (p.clean.cap ≡ CLEAN_PAGES) × (p.first ≤ first_unwritten p.places.entries) };
+}
+
+impl Part {
+    /// A partition without a page.
+    pub fn empty(alloc: Global) -> Result<Part, NoMemory>
+        ensures { IfOk result (λ part. part ≡ no_pages) }
+    {
+        let Some(cap) = NonZeroUsize::new(CLEAN_PAGES) else {
+            return Err(NoMemory);
+        };
+        Ok(Part {
+            places: IndexMap::new(alloc),
+            clean: LruCache::new(alloc, cap)?,
+            first: 0,
+        })
+    }
+
+    /// Whether a page has a place among the dirty ones.
+    pub fn has_place(&self, page: u32) -> bool
+        ensures { result ≡ has_place self.now page }
+    {
+        self.places.contains_key(&page)
+    }
+
+    /// Makes a page that the partition doesn't hold the first clean one; one more than [`CLEAN_PAGES`] goes. If out of
+    /// memory the page comes back, and nothing has changed.
+    pub fn keep(&mut self, page: u32, content: Page) -> Option<Page>
+        requires { content_at self.old page ≡ None }
+        ensures kept { IfNone result (self.new ≡ kept self.old page content) }
+        ensures full { IfSome result (λ back. (back ≡ content) × (self.new ≡ self.old)) }
+    {
+        match self.clean.put(page, content) {
+            Ok(_) => None,
+            Err(failed) => Some(failed.value.1),
+        }
+    }
+
+    /// Makes a place for a page among the dirty ones, where it has none. Unchanged if out of memory.
+    pub fn reserve(&mut self, page: u32) -> Result<(), NoMemory>
+        ensures ok { OnOk result (self.new ≡ reserved self.old page) }
+        ensures err { OnErr result (self.new ≡ self.old) }
+    {
+        if self.places.contains_key(&page) {
+            return Ok(());
+        }
+        self.places.insert(
+            page,
+            Place {
+                content: None,
+                written: false,
+            },
+        )?;
+        Ok(())
+    }
+
+    /// Makes a page with a place dirty and unwritten. Takes no memory.
+    pub fn install(&mut self, page: u32, content: Page)
+        requires { IsTrue (has_place self.old page) }
+        ensures { self.new ≡ installed self.old page content }
+    {
+        self.clean.pop(&page);
+        let Some(at) = self.places.get_index_of(&page) else {
+            return;
+        };
+        let Some(place) = self.places.get_mut(&page) else {
+            return;
+        };
+        *place = Place {
+            content: Some(content),
+            written: false,
+        };
+        self.first = self.first.min(at);
+    }
+
+    /// The first dirty page that is unwritten, in the order in which the places were made.
+    pub fn next_unwritten(&self) -> Option<u32>
+        ensures { result ≡ unwritten_page self.now.places }
+    {
+        let at = first_from(&self.places, self.first);
+        let (page, _) = self.places.get_index(at)?;
+        Some(*page)
+    }
+
+    /// Notes that a dirty page is written.
+    pub fn mark_written(&mut self, page: u32)
+        requires { IsSome (dirty_at self.old page) }
+        ensures { IfSome (dirty_at self.old page) (λ content. self.new ≡ marked self.old page content) }
+    {
+        let Some(place) = self.places.get_mut(&page) else {
+            return;
+        };
+        place.written = true;
+        self.first = first_from(&self.places, self.first);
+    }
+
+    /// Drops each place without a dirty page. The others keep their order.
+    pub fn trim(&mut self)
+        ensures { self.new ≡ trimmed self.old }
+    {
+        self.first = 0;
+        self.places.retain(
+            |_page: &u32, place: &mut Place| -> bool
+                ensures { (result ≡ is_dirty place.old) × (place.new ≡ place.old) }
+            { place.content.is_some() },
+        );
+        self.first = first_from(&self.places, 0);
+    }
+}
+
+// The first unwritten place, where none before this one is.
+fn first_from(places: &IndexMap<u32, Place>, from: usize) -> usize
+    requires { from ≤ first_unwritten places.now.entries }
+    ensures { result ≡ first_unwritten places.now.entries }
+{
+    for at in from..places.len() {
+        if let Some((_, place)) = places.get_index(at) {
+            if place.is_unwritten() {
+                return at;
+            }
+        }
+    }
+    places.len()
+}

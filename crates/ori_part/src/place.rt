@@ -1,0 +1,23 @@
+// What a page's place holds.
+ghost use Rattle.std.specs.Prelude.{◌≡◌};
+
+use ori_page::Page;
+
+/// A place among the dirty pages: a dirty page with its mark, or none.
+#[derive(Drop)]
+pub struct Place {
+    pub content: Option<Page>,
+    /// Whether the content has been written to the page's home. Not where there is no content.
+    pub written: bool,
+}
+
+impl Place {
+    ghost use Rattle.ori_part.specs.Parts.{is_unwritten};
+
+    /// Whether it has a dirty page that isn't written.
+    pub fn is_unwritten(&self) -> bool
+        ensures { result ≡ is_unwritten self.now }
+    {
+        self.content.is_some() && !self.written
+    }
+}

@@ -1,0 +1,10 @@
+pub mod Bytes
+pub mod TakenBack
+pub mod Past
+pub mod Data
+pub mod Steps
+pub mod Told
+pub mod Plain
+pub mod Moments
+pub mod Filled
+pub mod Picked

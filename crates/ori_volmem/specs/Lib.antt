@@ -1,0 +1,10 @@
+pub mod Crashes
+pub mod DiskStates
+pub mod Memory
+pub mod Plain
+pub mod PlainLaws
+pub mod PlainStates
+pub mod Record
+pub mod States
+pub mod VolumeLaws
+pub mod VolumeStates

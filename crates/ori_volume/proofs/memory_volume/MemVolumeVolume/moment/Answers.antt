@@ -1,6 +1,0 @@
-use Rattle.std.proofs.Common.{sym}
-use Rattle.ori_volume.proofs.Moments.{told}
-use Rattle.ori_volume.proofs.memory_volume.MemVolumeVolume.moment.Goals as goal
-
-pub returns : goal.returns
-returns c = sym (told c.args.self.now.disk)
