@@ -1,18 +1,18 @@
 -- Renaming in place, a step at a time.
-use Rattle.std.proofs.Common.{◌≡◌, ℕ, zero, suc, ◌+◌, ◌-◌, ◌<◌, ◌≤◌, true, false, List, [], ◌∷◌, ◌++◌, length, take}
-use Rattle.std.proofs.Common.{drop, get_or, set, refl, sym, ap, subst, ◌∙◌, arith, add-one, drop-cons, length-drop}
-use Rattle.std.specs.List.{insert}
-use Rattle.std.proofs.lemmas.List.{take_more, take_all, append_assoc, get_or_default}
+use Rattle.std.proofs.Common.{◌≡◌, ℕ, zero, suc, ◌+◌, ◌<◌, ◌≤◌, List, [], ◌∷◌, length, get_or, set, refl, sym, ap}
+use Rattle.std.proofs.Common.{subst, ◌∙◌, arith, add-one}
+use Rattle.std.proofs.lemmas.List.{get_or_default}
 use Rattle.ori_bytes.specs.declared.rid.Rid.{Rid}
 use Rattle.ori_spec_data.specs.Value.{Trees, no_trees, more_trees, Fields, no_pairs, pair, Links, unlinked, linked}
 use Rattle.ori_spec_data.specs.Value.{nesting, trees_nesting, fields_nesting}
 use Rattle.ori_spec_data.specs.Fields.{IsBeforeAll, IsRising, IsBeforeLinks, IsRisingLinks}
-use Rattle.ori_spec_data.specs.Apply.{same_rid, comes_before, put_rid, renamed, renamed_all, renamed_links, relinked}
+use Rattle.ori_spec_data.specs.Fit.{link_set_of}
+use Rattle.ori_spec_data.specs.Apply.{put_rid, renamed, renamed_all, renamed_set, renamed_links, relinked}
 use Rattle.ori_spec_data.specs.Apply.{relinked_trees, relinked_fields}
 use Rattle.ori_value.specs.declared.value.Value.{Value}
 use Rattle.ori_value.specs.Links.{links_of}
 use Rattle.ori_value.specs.View.{tree_of, trees_of, fields_of}
-use Rattle.ori_decide.specs.Renaming.{trees_front, fields_front, links_front, rids_front, IsGap}
+use Rattle.ori_decide.specs.Renaming.{trees_front, fields_front, links_front, rids_front}
 
 -- ---- lists of identifiers
 
@@ -44,78 +44,9 @@ rids_all ps (n ∷ now) (r ∷ rids) (suc i) le e =
 
 -- ---- sets
 
--- an identifier that doesn't stand there, nor comes before the one that does, goes in behind it
-pub put_behind : (rid : Rid) (xs : List Rid) (i : ℕ) (d : Rid) → i < length xs → same_rid rid (get_or xs i d) ≡ false
-    → comes_before rid (get_or xs i d) ≡ false → put_rid rid xs ≡ take i xs ++ put_rid rid (drop i xs)
-    → put_rid rid xs ≡ take (i + 1) xs ++ put_rid rid (drop (i + 1) xs)
-put_behind rid xs i d lt same before h =
-    let one : put_rid rid (drop i xs) ≡ get_or xs i d ∷ put_rid rid (drop (i + 1) xs) =
-    rw (drop-cons xs i d, same, before, add-one) refl in
-    h ∙ ap (λ (ys : List Rid). take i xs ++ ys) one
-    ∙ rw (take_more xs i d lt, append_assoc (take i xs) (get_or xs i d ∷ []) (put_rid rid (drop (i + 1) xs))) refl
-
-pub put_there : (rid : Rid) (xs : List Rid) (i : ℕ) (d : Rid) → i < length xs → same_rid rid (get_or xs i d) ≡ true
-    → put_rid rid (drop i xs) ≡ drop i xs
-put_there rid xs i d lt same = rw (drop-cons xs i d, same) refl
-
-pub put_first : (rid : Rid) (xs : List Rid) (i : ℕ) (d : Rid) → i < length xs → same_rid rid (get_or xs i d) ≡ false
-    → comes_before rid (get_or xs i d) ≡ true → put_rid rid (drop i xs) ≡ rid ∷ drop i xs
-put_first rid xs i d lt same before = rw (drop-cons xs i d, same, before) refl
-
-zero_plus : (n : ℕ) → 0 + n ≡ n
-zero_plus n = omega arith
-
-shift : (n m : ℕ) → suc n + m ≡ suc (n + m)
-shift n m = omega arith
-
-take_behind : (xs : List Rid) (at gap : ℕ) → at < length xs
-    → take (at + gap) (take at xs ++ drop (suc at) xs) ≡ take at xs ++ take gap (drop (suc at) xs)
-take_behind [] at gap lt = absurd (omega arith)
-take_behind (x ∷ xs) zero gap lt = rw (zero_plus gap) refl
-take_behind (x ∷ xs) (suc at) gap lt =
-    rw (shift at gap) (ap (λ (ys : List Rid). x ∷ ys) (take_behind xs at gap (omega arith)))
-
-drop_behind : (xs : List Rid) (at gap : ℕ) → at < length xs
-    → drop (at + gap) (take at xs ++ drop (suc at) xs) ≡ drop gap (drop (suc at) xs)
-drop_behind [] at gap lt = absurd (omega arith)
-drop_behind (x ∷ xs) zero gap lt = rw (zero_plus gap) refl
-drop_behind (x ∷ xs) (suc at) gap lt = rw (shift at gap) (drop_behind xs at gap (omega arith))
-
--- the part of a list behind a place, as a slice
-pub gap_behind : (rid : Rid) (xs ys : List Rid) (at gap : ℕ) → ys ≡ xs
-    → IsGap rid (take (length ys - at) (drop at ys)) gap → IsGap rid (drop at xs) gap
-gap_behind rid xs ys at gap e is =
-    let all : take (length xs - at) (drop at xs) ≡ drop at xs = take_all (length xs - at) (drop at xs) (omega (
-      arith,
-      length-drop at xs,
-    )) in
-    subst (λ (zs : List Rid). IsGap rid zs gap) all
-    (subst (λ (zs : List Rid). IsGap rid (take (length zs - at) (drop at zs)) gap) e is)
-
--- the set behind a place, with one more
-pub put_in : (rid : Rid) (xs : List Rid) (at gap : ℕ) → at < length xs → IsGap rid (drop (at + 1) xs) gap
-    → insert (take at xs ++ drop (at + 1) xs) (at + gap) rid ≡ take at xs ++ put_rid rid (drop (at + 1) xs)
-put_in rid xs at gap lt is =
-    let put : put_rid rid (drop (suc at) xs) ≡ take gap (drop (suc at) xs) ++ rid ∷ drop gap (drop (suc at) xs) =
-    rw add-one at is.put in
-    rw (
-      add-one,
-      take_behind xs at gap lt,
-      drop_behind xs at gap lt,
-      put,
-      append_assoc (take at xs) (take gap (drop (suc at) xs)) (rid ∷ drop gap (drop (suc at) xs)),
-    ) refl
-
-set_is : (xs : List Rid) (at : ℕ) (rid : Rid) → at < length xs → set xs at rid ≡ take at xs ++ rid ∷ drop (suc at) xs
-set_is [] at rid lt = absurd (omega arith)
-set_is (x ∷ xs) zero rid lt = refl
-set_is (x ∷ xs) (suc at) rid lt = ap (λ (ys : List Rid). x ∷ ys) (set_is xs at rid (omega arith))
-
-pub put_on : (rid : Rid) (xs : List Rid) (at gap : ℕ) → at < length xs → IsGap rid (drop (at + 1) xs) gap → gap ≡ 0
-    → set xs at rid ≡ take at xs ++ put_rid rid (drop (at + 1) xs)
-put_on rid xs at gap lt is e =
-    let first : put_rid rid (drop (at + 1) xs) ≡ rid ∷ drop (at + 1) xs = rw is.put (rw e refl) in
-    rw (first, add-one) (set_is xs at rid lt)
+pub set_renamed : (ps : List (Rid × Rid)) (rids : List Rid) → link_set_of (renamed_all ps rids) ≡ renamed_set ps rids
+set_renamed ps [] = refl
+set_renamed ps (r ∷ rids) = ap (put_rid (renamed ps r)) (set_renamed ps rids)
 
 -- ---- links of maps
 

@@ -1,10 +1,10 @@
 -- Temporary identifiers beside what they become, and renaming in place, a step at a time.
-use Rattle.std.specs.Prelude.{◌≡◌, ℕ, zero, suc, ◌+◌, ◌-◌, ◌<◌, ◌≤◌, length, get_or, ℤ, pos, negsuc, List, [], ◌∷◌}
-use Rattle.std.specs.Prelude.{◌++◌, take, drop, ⊤}
+use Rattle.std.specs.Prelude.{ℕ, zero, suc, ◌+◌, ◌-◌, ◌<◌, ◌≤◌, length, get_or, ℤ, pos, negsuc, List, [], ◌∷◌}
+use Rattle.std.specs.Prelude.{⊤}
 use Rattle.ori_bytes.specs.declared.rid.Rid.{Rid}
 use Rattle.ori_spec_data.specs.Value.{Trees, no_trees, more_trees, Fields, no_pairs, pair, Links, unlinked, linked}
 use Rattle.ori_spec_data.specs.Base.{ChangeData, create, update, delete, touch}
-use Rattle.ori_spec_data.specs.Apply.{put_rid, renamed, relinked}
+use Rattle.ori_spec_data.specs.Apply.{renamed, relinked}
 
 -- ---- pairs
 
@@ -61,8 +61,3 @@ abbrev pub rids_front : List (Rid × Rid) → ℕ → List Rid → List Rid
 rids_front ps zero rids = rids
 rids_front ps (suc i) [] = []
 rids_front ps (suc i) (rid ∷ rids) = renamed ps rid ∷ rids_front ps i rids
-
--- an identifier that isn't in a set goes into it at this place
-pub record IsGap (rid : Rid) (rids : List Rid) (at : ℕ) : Type 0 where
-  pub within : at ≤ length rids
-  pub put : put_rid rid rids ≡ take at rids ++ rid ∷ drop at rids

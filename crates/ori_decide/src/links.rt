@@ -1,11 +1,10 @@
 // Links to temporary identifiers that become the fresh ones, in place.
-ghost use Rattle.std.specs.Prelude.{◌≡◌, ◌+◌, ◌<◌, ◌++◌, length, take, drop, MatchOption};
-ghost use Rattle.ori_spec_data.specs.Apply.{comes_before, put_rid, renamed_all, renamed_set, renamed_links};
-ghost use Rattle.ori_decide.specs.Renaming.{IsGap};
+ghost use Rattle.std.specs.Prelude.{◌≡◌};
+ghost use Rattle.ori_spec_data.specs.Apply.{comes_before, renamed_all, renamed_set, renamed_links};
 
 use crate::renamings::Renamings;
 use ori_bytes::{Rid, RidList};
-use ori_value::RidFieldList;
+use ori_value::{RidFieldList, rising_set};
 use std::alloc::Global;
 use std::mem;
 
@@ -30,48 +29,13 @@ pub fn relink_all(alloc: Global, rids: &mut RidList, pairs: &Renamings)
     *rids = RidList::from_vec(all);
 }
 
-// Where an identifier goes in a set that rises, or none where it is there.
-fn gap_in(rids: &[Rid], rid: Rid) -> Option<usize>
-    ensures { MatchOption result (put_rid rid rids.now ≡ rids.now) (IsGap rid rids.now) }
-{
-    for (at, other) in rids.iter().enumerate() {
-        if rid == *other {
-            return None;
-        }
-        if is_before(rid, *other) {
-            return Some(at);
-        }
-    }
-    Some(rids.len())
-}
-
-// Puts an identifier, in place of the one at `at`, into the set that stands behind it.
-fn put_at(rids: &mut Vec<Rid>, at: usize, rid: Rid)
-    requires { at < length rids.old.items }
-    ensures { rids.new.items ≡ take at rids.old.items ++ put_rid rid (drop (at + 1) rids.old.items) }
-{
-    let Some(gap) = gap_in(&rids[at + 1..], rid) else {
-        rids.remove(at);
-        return;
-    };
-    if gap == 0 {
-        rids[at] = rid;
-        return;
-    }
-    rids.remove(at);
-    let _ = rids.insert(at + gap, rid);
-}
-
 /// Renames the identifiers of a set, which stand in rising order then and each once.
+#[tactic(auto, using(crate::proofs::InPlace::set_renamed))]
 pub fn relink_set(alloc: Global, rids: &mut RidList, pairs: &Renamings)
     ensures { rids.new ≡ renamed_set pairs.now rids.old }
 {
-    let mut set = mem::replace(rids, RidList::new(alloc)).into_vec();
-    for i in (0..set.len()).rev() {
-        let rid = pairs.real(set[i]);
-        put_at(&mut set, i, rid);
-    }
-    *rids = RidList::from_vec(set);
+    relink_all(alloc, rids, pairs);
+    *rids = rising_set(mem::replace(rids, RidList::new(alloc)));
 }
 
 /// Renames the links of a map.

@@ -7,7 +7,6 @@ use Rattle.std.proofs.lemmas.List.{take-append-le, take-replicate, take_at, map-
 use Rattle.std.proofs.Math.Seq.{take-append-add}
 use Rattle.ori_bytes.specs.declared.limits.TheConstants.{PAGE_BYTES}
 use Rattle.ori_volume.specs.Disk.{Files}
-use Rattle.ori_volume.specs.Story.{Story, Tells, Reads}
 use Rattle.ori_volume.specs.Effects.{read_bytes}
 use Rattle.ori_log.specs.Log.{ImageData, FilesData, first_of, last_image, home_of, images_of, page_of, pages_named}
 use Rattle.ori_log.specs.Log.{pages_at_home, pages_from, pages_of}
@@ -156,7 +155,7 @@ last_here : (i : ImageData) (images : List ImageData) → last_image i.page imag
     → last_image i.page (i ∷ images) ≡ Some i.content
 last_here i images none = rw (none, eq-eqb i.page i.page refl) refl
 
-none_past : (p : ℕ) (images : List ImageData) → pages_named images ≤ p → last_image p images ≡ None
+pub none_past : (p : ℕ) (images : List ImageData) → pages_named images ≤ p → last_image p images ≡ None
 none_past p [] past = refl
 none_past p (i ∷ images) past = last_other p i images (λ e. omega (arith, past, e))
     ∙ none_past p images (omega (arith, past))
@@ -166,7 +165,7 @@ none_low low p [] rising lt = refl
 none_low low p (i ∷ images) rising lt = last_other p i images (λ e. omega (arith, rising.0, lt, e))
     ∙ none_low (i.page + 1) p images rising.2 (omega (arith, rising.0, lt))
 
-first_none : (a b : Option (List ℕ)) → first_of a b ≡ None → (a ≡ None) × (b ≡ None)
+pub first_none : (a b : Option (List ℕ)) → first_of a b ≡ None → (a ≡ None) × (b ≡ None)
 first_none None b e = (refl, e)
 first_none (Some x) b e = absurd cc
 
@@ -303,12 +302,6 @@ home_told told number page lent new same whole long is =
     (λ fs e. all ∙ e ∙ ap (read_bytes fs.pages (PAGE_BYTES * number)) whole ∙ home_read fs.pages number) is where
       all : take (length page) (new ++ drop (length new) page) ≡ new
       all = take_at new (drop (length new) page) (length page) (omega (arith, long, ap length same))
-
-pub reads_then : (a b c : Option Story) → Tells Reads a b → Tells Reads b c → Tells Reads a c
-reads_then None b c first second = subst (λ (o : Option Story). Tells Reads o c) first second
-reads_then (Some x) b c first second =
-    let moved : Tells Reads (Some first.0) c = subst (λ (o : Option Story). Tells Reads o c) first.1 second in
-    (moved.0, moved.1, record { past = moved.2.past ∙ first.2.past; disk = moved.2.disk ∙ first.2.disk })
 
 -- a home is read behind others
 pub homes_step : (before now : Option Files) (pages laid new : List (List ℕ)) (home : List ℕ) (page : ℕ) → now ≡ before

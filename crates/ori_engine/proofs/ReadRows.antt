@@ -11,7 +11,9 @@ use Rattle.ori_bytes.specs.declared.limits.TheConstants.{PAGE_BYTES, MAX_PAGES}
 use Rattle.ori_spec_data.specs.Base.{RecordData, BaseData}
 use Rattle.ori_spec_data.specs.Apply.{rid_at}
 use Rattle.ori_spec_data.specs.Records.{record_at}
+use Rattle.ori_record.specs.declared.bag_field.BagField.{BagField}
 use Rattle.ori_record.specs.Spelling.{Spells}
+use Rattle.ori_record.proofs.Records.{one_record}
 use Rattle.ori_rows.specs.Stage.{head_page, record_page, IsPageOf, StandFor}
 use Rattle.ori_rows.specs.Rows.{AreAt}
 use Rattle.ori_rows.proofs.Places.{at_append}
@@ -82,9 +84,21 @@ one_spelling_on page a b whole e f = sym (read_on page a whole e).is ∙ (read_o
 -- ---- the row of a page
 
 pub none_unspelled : (page spelling : List ℕ) → ((other : List ℕ) → page ≡ record_page other → other ≡ spelling)
-    → 0 < length spelling → ((r : RecordData) → Spells spelling r → ⊥) → IsRecordPage page → ⊥
+    → 0 < length spelling → ((r : RecordData) → Spells spelling r [] → ⊥) → IsRecordPage page → ⊥
 none_unspelled page spelling one some none (inl empty) = omega (arith, some, ap length (one [] empty))
-none_unspelled page spelling one some none (inr w) = none w.1 (subst (λ (b : List ℕ). Spells b w.1) (one w.0 w.3) w.2)
+none_unspelled page spelling one some none (inr w) = none w.1 (subst (λ (b : List ℕ). Spells b w.1 []) (one w.0 w.3) w.2)
+
+pub no_bags : (bags : List BagField) → length bags ≡ 0 → bags ≡ []
+no_bags [] e = refl
+no_bags (f ∷ bags) e = absurd (omega (arith, e))
+
+-- the page of a record with bags
+pub none_bagged : (page spelling : List ℕ) (r : RecordData) (bags : List BagField)
+    → ((other : List ℕ) → page ≡ record_page other → other ≡ spelling) → 0 < length spelling → Spells spelling r bags
+    → 0 < length bags → IsRecordPage page → ⊥
+none_bagged page spelling r bags one some spelled bagged h =
+    none_unspelled page spelling one some (λ s plain.
+    let none : bags ≡ [] = (one_record spelling r s bags [] spelled plain).1 in omega (arith, bagged, ap length none)) h
 
 pub none_unpaged : (page : List ℕ) → ((bytes : List ℕ) → page ≡ record_page bytes → ⊥) → IsRecordPage page → ⊥
 none_unpaged page none (inl empty) = none [] empty

@@ -1,8 +1,8 @@
 -- The pages that files give, and those of rows.
-use Rattle.std.proofs.Common.{◌≡◌, inl, inr, ℕ, zero, suc, ◌+◌, ◌*◌, ◌<◌, ◌≤◌, max, Bool, true, false, cond, ◌==◌, List}
+use Rattle.std.proofs.Common.{◌≡◌, inl, inr, ℕ, zero, suc, ◌+◌, ◌*◌, ◌<◌, ◌≤◌, max, Bool, true, cond, ◌==◌, List}
 use Rattle.std.proofs.Common.{[], ◌∷◌, ◌++◌, length, get_or, Option, Some, None, unwrap_or, refl, sym, ap, subst, ◌∙◌}
 use Rattle.std.proofs.Common.{arith, append-nil}
-use Rattle.std.proofs.lemmas.Bool.{cases_lt, eq-eqb, eqb-true}
+use Rattle.std.proofs.lemmas.Bool.{cases_lt, eq-eqb}
 use Rattle.std.proofs.lemmas.Grind.{flat_map-append}
 use Rattle.std.proofs.lemmas.List.{nil_from_length}
 use Rattle.ori_bytes.specs.declared.limits.TheConstants.{PAGE_BYTES}
@@ -17,6 +17,7 @@ use Rattle.ori_rows.specs.Rows.{records_of, AreAt, base_with}
 use Rattle.ori_rows.specs.Images.{Changes}
 use Rattle.ori_rows.proofs.Places.{at_place}
 use Rattle.ori_engine.specs.Holding.{HasRows, HasNoRow, Gives}
+use Rattle.ori_engine.proofs.HomePages.{none_past, first_none}
 
 -- the number of the pages
 abbrev pub count_of : FilesData → List (List ImageData) → ℕ
@@ -82,24 +83,12 @@ rows_stand rows records files at has = record {
 
 -- ---- images that change them
 
-none_both : (a b : Option (List ℕ)) → first_of a b ≡ None → (a ≡ None) × (b ≡ None)
-none_both None b is = (refl, is)
-none_both (Some x) b is = absurd cc
-
-none_past : (p : ℕ) (images : List ImageData) → pages_named images ≤ p → last_image p images ≡ None
-none_past p [] past = refl
-none_past p (i ∷ images) past = by (i.page == p) refl (none_past p images (omega (arith, past))) where
-  by : (b : Bool) → (i.page == p) ≡ b → last_image p images ≡ None
-      → first_of (last_image p images) (cond b (Some i.content) None) ≡ None
-  by true e none = let same : i.page ≡ p = eqb-true i.page p e in absurd (omega (arith, past, same))
-  by false e none = ap (λ (o : Option (List ℕ)). first_of o None) none
-
 -- an image of a page below 1 is of page 0
 first_is : (images : List ImageData) → 0 < length images → pages_named images ≤ 1 → last_image 0 images ≡ None → ⊥
 first_is [] some few none = omega (arith, some)
 first_is (i ∷ images) some few none =
     let first : i.page ≡ 0 = omega (arith, few) in
-    let parts = none_both (last_image 0 images) (cond (i.page == 0) (Some i.content) None) none in
+    let parts = first_none (last_image 0 images) (cond (i.page == 0) (Some i.content) None) none in
     let here : (i.page == 0) ≡ true = eq-eqb i.page 0 first in
     let both : Some i.content ≡ None = sym (ap (λ (b : Bool). cond b (Some i.content) None) here) ∙ parts.1 in
     absurd cc
@@ -155,7 +144,7 @@ module _ (rows new : List (Option RecordData)) (records : List (List ImageData))
   more_of : HasRows rows records files → HasRows new more files
   more_of has = record {
     whole = λ page within none.
-        let parts = none_both (last_image page images) (last_image page (images_of records)) (sym (last_more page)
+        let parts = first_none (last_image page images) (last_image page (images_of records)) (sym (last_more page)
         ∙ none) in
         elim (cases_lt page (count_of files records)) [
           | inl below ↦ has.whole page below parts.1
@@ -187,7 +176,7 @@ module _ (rows new : List (Option RecordData)) (records : List (List ImageData))
       let homes : length files.pages ≡ 0 = ap length has.no_home in
       record {
         whole = λ page within none.
-            let parts = none_both (last_image page images) (last_image page (images_of records)) (sym (last_more page)
+            let parts = first_none (last_image page images) (last_image page (images_of records)) (sym (last_more page)
             ∙ none) in
             absurd (nowhere page (omega (arith, within, named_more, named, homes)) parts.0);
         enough = enough_more (let one = named_some images some in omega (arith, no_rows, one));

@@ -20,7 +20,8 @@ use Rattle.ori_rows.specs.Stage.{head_page, record_page, IsPageOf, StandFor}
 use Rattle.ori_spec_data.proofs.Kept.{all_more, clusters}
 use Rattle.ori_spec_data.proofs.Orders.{lt_of, lt_apart}
 use Rattle.ori_spec_data.proofs.Rids.{same_rid-true, same_rid-of, differ, not_both}
-use Rattle.ori_record.proofs.Wholes.{one_read, spelled_size}
+use Rattle.ori_record.proofs.Records.{one_record}
+use Rattle.ori_record.proofs.Wholes.{spelled_size}
 use Rattle.ori_rows.specs.Rows.{records_of, AreAt, base_with}
 use Rattle.ori_rows.proofs.Places.{one_position, not_before, row_there, IsPlaced}
 use Rattle.ori_engine.proofs.RecordForms.{record_fits, record_length, record_bytes_at, pages_counted}
@@ -47,8 +48,8 @@ one_page a b short e =
     sym (record_bytes_at a) ∙ ap (λ (p : List ℕ). take (length a) (drop 10 p)) e
     ∙ ap (λ (n : ℕ). take n (drop 10 (record_page b))) len ∙ record_bytes_at b
 
-not_empty : (bytes : List ℕ) (r : RecordData) → Spells bytes r → bytes ≡ [] → ⊥
-not_empty bytes r spells none = omega (arith, spelled_size bytes r spells, ap length none)
+not_empty : (bytes : List ℕ) (r : RecordData) → Spells bytes r [] → bytes ≡ [] → ⊥
+not_empty bytes r spells none = omega (arith, spelled_size bytes r [] spells, ap length none)
 
 -- a record that a page has room for, or none
 abbrev IsSmall : Option RecordData → Type 0
@@ -60,16 +61,17 @@ one_row : (p : ℕ) (page : List ℕ) (found stored : Option RecordData) → IsP
     → IsPlaced p found → IsPlaced p stored → IsSmall stored → found ≡ stored
 one_row p page None None a b at there small = refl
 one_row p page None (Some r) a (bytes, spells, is) at there small =
-    let size = spelled_size bytes r spells in
+    let size = spelled_size bytes r [] spells in
     let none : [] ≡ bytes = one_page [] bytes (omega (arith, size, small)) (sym a ∙ is) in
     absurd (not_empty bytes r spells (sym none))
 one_row p page (Some r) None (bytes, spells, is) b at there small =
     let none : bytes ≡ [] = one_page bytes [] (omega arith) (sym is ∙ b) in
     absurd (not_empty bytes r spells none)
 one_row p page (Some r) (Some s) (bytes, spells, is) (others, spelled, same) at there small =
-    let size = spelled_size others s spelled in
+    let size = spelled_size others s [] spelled in
     let one : bytes ≡ others = one_page bytes others (omega (arith, size, small)) (sym is ∙ same) in
-    ap Some (one_read bytes r s spells (subst (λ (l : List ℕ). Spells l s) (sym one) spelled) (at ∙ sym there))
+    ap Some ((one_record bytes r s [] [] spells (subst (λ (l : List ℕ). Spells l s []) (sym one) spelled)).0
+    (at ∙ sym there))
 
 -- ---- records whose positions rise
 

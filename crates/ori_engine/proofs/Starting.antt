@@ -79,9 +79,6 @@ start_fails (Ok kept) attached old mid new failed attaches reads = absurd (true�
 start_fails (Err why) attached old mid new failed attaches reads = λ base opens. attach_safely attached base old mid
     new attaches reads opens
 
-pub no_reads : (story : Story) → Reads story story
-no_reads story = record { past = refl; disk = refl }
-
 -- what is kept first is safe
 first_safe : (base : BaseData) (old new : Story) (log : Log) (kept : KeptData)
     → CrashSafe OpensTo base [] [] [] old new → IsSoundBase base → base_with kept.rows ≡ base → kept.log ≡ log

@@ -107,8 +107,9 @@ pub record IsOpenedAt (now log_now at : ℕ) (opening : OpeningData) : Type 0 wh
 
 -- ---- since then
 
--- Commits have ended exactly where a write, cut or sync of the log has failed since its count stood at this, and the
--- number is that of all failed calls then.
+-- Commits have ended exactly where a write, cut or sync of the log has failed since its count stood at this. The count
+-- of all faults at which they ended rose above the earlier one, or stands at the end of a `u64`, and is at most the
+-- later one.
 abbrev pub IsHaltedSince : ℕ → ℕ → ℕ → ℕ → Option ℕ → Type 0
 IsHaltedSince faults_old faults_new log_faults_old log_faults_new None = log_faults_new ≡ log_faults_old
 IsHaltedSince faults_old faults_new log_faults_old log_faults_new (Some faults) =

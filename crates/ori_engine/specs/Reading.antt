@@ -45,7 +45,7 @@ HasNoCount pages = length pages ≤ MAX_PAGES → (count : ℕ) → 0 < count �
 -- the page of a position, with a record or without one
 abbrev pub IsRecordPage : List ℕ → Type 0
 IsRecordPage page = (page ≡ record_page [])
-    ⊎ ((bytes : List ℕ) × (r : RecordData) × Spells bytes r × (page ≡ record_page bytes))
+    ⊎ ((bytes : List ℕ) × (r : RecordData) × Spells bytes r [] × (page ≡ record_page bytes))
 
 -- the page has this record or none, which is as one at that position may be
 pub record IsRowAt (place : ℕ) (page : List ℕ) (row : Option RecordData) : Type 0 where

@@ -68,8 +68,8 @@ impl<V: Volume> Engine<V> {
 
     /// Opens a volume. Its log is attached, whose images and the homes behind them give the pages; the files of an
     /// empty volume are made. `NotADatabase` comes exactly where the files aren't of the form, and they are as they
-    /// were then. Whatever the answer, and whenever a crash comes, the files open to what they opened to before. No entry
-    /// has a mark yet.
+    /// were then. Whatever the answer, and whenever a crash comes, the files open to what they opened to before. No
+    /// entry has a mark yet.
     pub fn start(alloc: Global, volume: V) -> Result<Engine<V>, Unopened<V>>
         ensures found { IfOk result (λ e. (found : FoundData) → Finds (V.files volume) found
             → IsStarted found (⟦<Engine<V> as Reader>⟧.state e)) }

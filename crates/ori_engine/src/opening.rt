@@ -2,7 +2,8 @@
 ghost use Rattle.std.specs.Prelude.{◌≡◌, ◌≤◌, ◌<◌, ◌+◌, ◌-◌, ◌/◌, ◌^◌, ◌⊎◌};
 ghost use Rattle.std.specs.Prelude.{ℕ, List, IfOk, OnOk, IfSome, IfErr, IsErrOf};
 ghost use Rattle.ori_volume.specs.declared.file.FileNo.{FileNo};
-ghost use Rattle.ori_volume.specs.Story.{Tells, Reads};
+ghost use Rattle.ori_volume.specs.OnlyRead.{IsOnlyRead};
+ghost use Rattle.ori_volume.specs.Story.{Tells};
 ghost use Rattle.ori_log.specs.Log.{ImageData, home_of, pages_of};
 ghost use Rattle.ori_spec_data.specs.Limits.{FoundData};
 ghost use Rattle.ori_rows.specs.Stage.{IsDatabase};
@@ -36,10 +37,8 @@ fn read_home<V: Volume>(alloc: Global, volume: &mut V, page: u64) -> Result<Page
     requires { page < 2 ^ 52 }
     ensures value { IfOk result (λ home. IfSome (V.files volume.old) (λ fs. home ≡ home_of fs.pages page)) }
     ensures fault { IfErr result (λ fault. (fault ≡ StartFault.Fault) ⊎ (fault ≡ StartFault.NoMemory)) }
-    ensures files { V.files volume.new ≡ V.files volume.old }
-    ensures story { Tells Reads (V.story volume.old) (V.story volume.new) }
+    ensures same { IsOnlyRead V.files V.story V.moment V.log_faults volume.old volume.new }
     ensures faults { FailsAs StartFault.Fault (V.faults volume.old) (V.faults volume.new) result }
-    ensures log_faults { V.log_faults volume.new ≡ V.log_faults volume.old }
 {
     let mut home = Page::zeros(alloc)?;
     volume.read_at(FileNo::Pages, PAGE_BYTES as u64 * page, home.bytes_mut())?;
@@ -57,10 +56,8 @@ fn read_homes<V: Volume>(
     ensures value { OnOk result (IfSome (V.files volume.old)
         (λ fs. pages.new.items ≡ with_homes fs.pages pages.old.items end)) }
     ensures fault { IfErr result (λ fault. (fault ≡ StartFault.Fault) ⊎ (fault ≡ StartFault.NoMemory)) }
-    ensures files { V.files volume.new ≡ V.files volume.old }
-    ensures story { Tells Reads (V.story volume.old) (V.story volume.new) }
+    ensures same { IsOnlyRead V.files V.story V.moment V.log_faults volume.old volume.new }
     ensures faults { FailsAs StartFault.Fault (V.faults volume.old) (V.faults volume.new) result }
-    ensures log_faults { V.log_faults volume.new ≡ V.log_faults volume.old }
 {
     for page in pages.len() as u64..end {
         let home = read_home(alloc, volume, page)?;
@@ -79,10 +76,8 @@ fn add_image<V: Volume>(
     ensures value { OnOk result (IfSome (V.files volume.old)
         (λ fs. pages.new.items ≡ with_image fs.pages pages.old.items (image_data image))) }
     ensures fault { IfErr result (λ fault. (fault ≡ StartFault.Fault) ⊎ (fault ≡ StartFault.NoMemory)) }
-    ensures files { V.files volume.new ≡ V.files volume.old }
-    ensures story { Tells Reads (V.story volume.old) (V.story volume.new) }
+    ensures same { IsOnlyRead V.files V.story V.moment V.log_faults volume.old volume.new }
     ensures faults { FailsAs StartFault.Fault (V.faults volume.old) (V.faults volume.new) result }
-    ensures log_faults { V.log_faults volume.new ≡ V.log_faults volume.old }
 {
     let PageImage { page, content } = image;
     read_homes(alloc, volume, pages, page as u64)?;
@@ -100,10 +95,8 @@ fn read_pages<V: Volume>(
     ensures value { IfOk result (λ pages. IfSome (V.files volume.old) (λ fs. (records : List (List ImageData))
         → ListsLast records images → pages.items ≡ pages_of (files_data fs) records)) }
     ensures fault { IfErr result (λ fault. (fault ≡ StartFault.Fault) ⊎ (fault ≡ StartFault.NoMemory)) }
-    ensures files { V.files volume.new ≡ V.files volume.old }
-    ensures story { Tells Reads (V.story volume.old) (V.story volume.new) }
+    ensures same { IsOnlyRead V.files V.story V.moment V.log_faults volume.old volume.new }
     ensures faults { FailsAs StartFault.Fault (V.faults volume.old) (V.faults volume.new) result }
-    ensures log_faults { V.log_faults volume.new ≡ V.log_faults volume.old }
 {
     let length = volume.len(FileNo::Pages)?;
     let mut pages = Vec::new(alloc);

@@ -88,9 +88,16 @@ fn read_row(alloc: Global, page: &Page, place: u64) -> Result<Option<Stored>, St
         position: place as i64,
     };
     match ori_record::read(alloc, spelling, rid) {
-        Ok(stored) => Ok(Some(stored)),
+        Ok((stored, bags)) => {
+            // No record has bags yet.
+            if !bags.is_empty() {
+                return Err(StartFault::NotADatabase);
+            }
+            Ok(Some(stored))
+        }
         Err(RecordFault::NotRecord) => Err(StartFault::NotADatabase),
-        Err(RecordFault::NoMemory) => Err(StartFault::NoMemory),
+        // No depth is told by reading.
+        Err(RecordFault::TooDeep | RecordFault::NoMemory) => Err(StartFault::NoMemory),
     }
 }
 

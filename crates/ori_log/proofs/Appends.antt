@@ -68,7 +68,7 @@ module _ (file : FileNo) (place : ℕ) (records : List (List ImageData)) (images
 
   -- what is staged waits for the place behind the closed gate
   ready_behind : (stage : Stage) (disk : Disk) → stage.at ≡ place + 1 → HoldsLog records place (of_file disk file)
-      → IsReady file (place + 1) stage disk
+      → IsReady (place + 1) stage (of_file disk file).bytes
   ready_behind stage disk at holds = record { behind = omega (arith, at); no_gap = omega (arith, at, holds.long) }
 
   pub body_failed : (fill : ℕ) (s0 s1 : Stage) (fault : Failed) (result : Answer) (old new : Story) → IsErr result
@@ -89,7 +89,8 @@ module _ (file : FileNo) (place : ℕ) (records : List (List ImageData)) (images
   -- the file once all that was staged is written
   body_written : (fill : ℕ) (s0 s1 : Stage) (old mid : Disk) → s0.at ≡ place + 1 → s0.filled ≡ 0 → s1.filled ≡ 0
       → (holds : HoldsLog records place (of_file old file))
-      → Staged file (place + 1) s0 s1 (behind_gate images ++ replicate fill 0) old mid
+      → Staged (place + 1) s0 s1 (behind_gate images ++ replicate fill 0) (of_file old file).bytes
+      (of_file mid file).bytes
       → (of_file mid file).bytes ≡ put (of_file old file).bytes (place + 1) (behind_gate images ++ replicate fill 0)
   body_written fill s0 s1 old mid at empty flushed holds more =
       sym (put_nil (of_file mid file).bytes s1.at more.ready.no_gap)

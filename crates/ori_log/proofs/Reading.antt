@@ -16,7 +16,6 @@ use Rattle.ori_bytes.specs.declared.limits.TheConstants.{PAGE_BYTES, MAX_PAGES, 
 use Rattle.ori_volume.specs.declared.file.FileNo.{FileNo}
 use Rattle.ori_volume.specs.Disk.{Files, of_file}
 use Rattle.ori_volume.specs.Effects.{read_bytes}
-use Rattle.ori_volume.specs.Story.{Story, Tells, Reads}
 use Rattle.ori_log.specs.Log.{ImageData, image_bytes, body_bytes, record_bytes, AreImages, IsLogRecord, IsLog}
 use Rattle.ori_log.specs.Log.{images_of, pages_named, last_image, first_of}
 use Rattle.ori_log.specs.Images.{IsWhole}
@@ -25,7 +24,7 @@ use Rattle.ori_log.specs.declared.stage.TheConstants.{IMAGE_BYTES}
 use Rattle.ori_log.specs.declared.tail.Head.{Head}
 use Rattle.ori_log.specs.declared.tail.Tail.{Tail}
 use Rattle.ori_log.specs.declared.fault.LogFault.{LogFault}
-use Rattle.ori_volume.proofs.Known.{some_always, some_both, some_then, tells_then}
+use Rattle.ori_volume.proofs.Known.{some_always, some_both, some_then}
 use Rattle.ori_log.proofs.Images.{length-body}
 use Rattle.ori_log.proofs.Logs.{all_more, front_split}
 use Rattle.ori_log.proofs.Records.{same_front, same_number, images_whole, stands_in, named_more, named_append}
@@ -226,11 +225,6 @@ pub passed_on : {T : Type 0} (fault : LogFault) (result : Result T LogFault) →
     → (other : LogFault) → IsErrOf result other → other ≡ fault
 passed_on fault (Ok x) failed other is = cc
 passed_on fault (Err f) failed other is = cc (failed, is)
-
-pub reads_then : (a b c : Option Story) → Tells Reads a b → Tells Reads b c → Tells Reads a c
-reads_then a b c first second =
-    tells_then Reads Reads Reads a b c (λ x y z one two. record
-    { past = two.past ∙ one.past; disk = two.disk ∙ one.disk }) first second
 
 -- ---- records
 

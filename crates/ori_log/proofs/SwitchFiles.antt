@@ -1,6 +1,6 @@
 -- What a switch does to the bytes of the files.
 use Rattle.std.proofs.Common.{◌≡◌, inl, inr, ℕ, ◌+◌, ◌%◌, ◌^◌, true≢false, List, [], ◌∷◌, Result, Ok, Err, refl}
-use Rattle.std.proofs.Common.{sym, ◌∙◌, ap, ap₂, subst}
+use Rattle.std.proofs.Common.{sym, ◌∙◌, ap, ap₂, subst, length, slice_index, arith}
 use Rattle.std.specs.Result.{IsErr}
 use Rattle.ori_bytes.specs.declared.limits.TheConstants.{CLOSED_GATE}
 use Rattle.ori_volume.specs.declared.failed.Failed.{Failed}
@@ -10,11 +10,15 @@ use Rattle.ori_volume.specs.Disk.{of_file, with_file, Files, firm_file}
 use Rattle.ori_volume.specs.Effects.{put, written, TornBytes}
 use Rattle.ori_volume.specs.Story.{ChangesFile, FilesWrite, FilesCut}
 use Rattle.ori_volume.proofs.Lasting.{written_torn}
-use Rattle.ori_log.specs.Files.{other_log}
-use Rattle.ori_log.specs.Switching.{SwitchesFiles, ClearsFiles, MasterTorn, SetsFiles}
+use Rattle.ori_log.specs.Files.{other_log, file_named}
+use Rattle.ori_log.specs.Appending.{StandsIn}
+use Rattle.ori_log.specs.declared.log.Log.{Log}
+use Rattle.ori_log.specs.Switching.{switched_files, SwitchesFiles, ClearsFiles, MasterTorn, SetsFiles}
 use Rattle.ori_log.specs.declared.fault.LogFault.{LogFault}
 use Rattle.ori_log.proofs.Behind.{with_twice}
+use Rattle.ori_log.proofs.Puts.{length-put}
 use Rattle.ori_log.proofs.Switching.{one_byte, other_in_log, other_master, other_here, master_apart, with_master}
+use Rattle.ori_log.proofs.Switching.{first_byte, next_names}
 
 -- one file alone changes, twice
 elsewhere_then : (file : FileNo) (B D : List ℕ → List ℕ → Type 0) (a b c : Files) → ChangesFile file B a b
@@ -74,7 +78,10 @@ sets_all byte (Err _) a b writes = record {
 
 -- ---- the call
 
-module _ (file which : FileNo) (which_is : which ≡ other_log file) (old_byte : ℕ) where
+module _ (log new_log : Log) (which : FileNo) (which_is : which ≡ other_log log.file) where
+  abbrev file : FileNo
+  file = log.file
+
   other_alone : (a b : Files) → b ≡ with_file a which (of_file b which)
       → b ≡ with_file (with_file a (other_log file) (of_file b (other_log file))) Master b.master
   other_alone a b is =
@@ -83,7 +90,7 @@ module _ (file which : FileNo) (which_is : which ≡ other_log file) (old_byte :
       (is ∙ ap (λ (f : FileNo). with_file a f (of_file b f)) which_is)
 
   pub switches_early : (fault : Failed) (result : Result (Unit {0}) LogFault) (a b : Files) → IsErr result
-      → ClearsFiles {T = Unit {0}} {E = Failed} which (Err fault) a b → SwitchesFiles file old_byte result a b
+      → ClearsFiles {T = Unit {0}} {E = Failed} which (Err fault) a b → SwitchesFiles log new_log result a b
   switches_early fault (Ok _) a b failed clears = absurd (true≢false (sym failed))
   switches_early fault (Err _) a b failed clears = record {
     only = other_alone a b clears;
@@ -99,7 +106,7 @@ module _ (file which : FileNo) (which_is : which ≡ other_log file) (old_byte :
 
   pub switches_late : (byte : ℕ) (fault : Failed) (result : Result (Unit {0}) LogFault) (a b c : Files) → IsErr result
       → ClearsFiles {T = Unit {0}} {E = Failed} which (Ok tt) a b
-      → SetsFiles {T = Unit {0}} {E = Failed} byte (Err fault) b c → SwitchesFiles file old_byte result a c
+      → SetsFiles {T = Unit {0}} {E = Failed} byte (Err fault) b c → SwitchesFiles log new_log result a c
   switches_late byte fault (Ok _) a b c failed clears sets = absurd (true≢false (sym failed))
   switches_late byte fault (Err _) a b c failed clears sets =
       let cleared : b ≡ with_file a (other_log file) (CLOSED_GATE ∷ []) = fresh_files a b clears in
@@ -118,13 +125,34 @@ module _ (file which : FileNo) (which_is : which ≡ other_log file) (old_byte :
         );
       }
 
-  pub switches_all : (byte : ℕ) (a b c : Files) → byte ≡ (old_byte + 1) % 2 ^ 8
+  -- the log that is attached then stands in the files
+  switch_stands : (a c : Files) → c ≡ switched_files file log.master a → new_log.file ≡ which → new_log.place ≡ 0
+      → new_log.length ≡ 1 → new_log.master ≡ (log.master + 1) % 2 ^ 8 → StandsIn log a → StandsIn new_log c
+  switch_stands a c is here place size byte stands =
+      let next : ℕ = (log.master + 1) % 2 ^ 8 in
+      let cleared : Files = with_file a (other_log file) (CLOSED_GATE ∷ []) in
+      let fresh : of_file c new_log.file ≡ CLOSED_GATE ∷ [] =
+      ap (λ (f : FileNo). of_file c f) (here ∙ which_is) ∙ ap (λ (f : Files). of_file f (other_log file)) is
+      ∙ master_apart (other_log file) cleared (put a.master 0 (next ∷ [])) (other_in_log file)
+      ∙ other_here file a (CLOSED_GATE ∷ []) in
+      record {
+        some = omega (arith, ap (λ (f : Files). length f.master) is, length-put a.master (next ∷ []) 0 (omega arith));
+        byte = byte ∙ sym (ap (λ (f : Files). slice_index f.master 0) is ∙ first_byte a.master next);
+        named = here ∙ which_is ∙ ap other_log stands.named ∙ sym (next_names log.master) ∙ sym (ap file_named byte);
+        long = size ∙ sym (ap length fresh);
+        within = omega (arith, place, ap length fresh);
+      }
+
+  pub switches_all : (byte : ℕ) (a b c : Files) → byte ≡ (log.master + 1) % 2 ^ 8 → new_log.file ≡ which
+      → new_log.place ≡ 0 → new_log.length ≡ 1 → new_log.master ≡ byte
       → ClearsFiles {T = Unit {0}} {E = Failed} which (Ok tt) a b
       → SetsFiles {T = Unit {0}} {E = Failed} byte (Ok tt) b c
-      → SwitchesFiles {T = Unit {0}} {E = LogFault} file old_byte (Ok tt) a c
-  switches_all byte a b c is clears sets =
+      → SwitchesFiles {T = Unit {0}} {E = LogFault} log new_log (Ok tt) a c
+  switches_all byte a b c is here place size master clears sets =
       let cleared : b ≡ with_file a (other_log file) (CLOSED_GATE ∷ []) = fresh_files a b clears in
+      let done : c ≡ switched_files file log.master a =
       sets
       ∙ ap₂ (λ (f : Files) (n : ℕ). with_file f Master (put f.master 0 (n ∷ []))) cleared is
       ∙ ap (λ (l : List ℕ). with_file (with_file a (other_log file) (CLOSED_GATE ∷ [])) Master
-      (put l 0 ((old_byte + 1) % 2 ^ 8 ∷ []))) (other_master file a (CLOSED_GATE ∷ []))
+      (put l 0 ((log.master + 1) % 2 ^ 8 ∷ []))) (other_master file a (CLOSED_GATE ∷ [])) in
+      (done, λ stands. switch_stands a c done here place size (master ∙ is) stands)

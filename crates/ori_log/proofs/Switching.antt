@@ -341,6 +341,14 @@ master_apart LogA four x in_log = refl
 master_apart LogB four x in_log = refl
 master_apart Pages four x in_log = absurd (true≢false (sym in_log))
 
+-- a log changes no master
+pub log_master : {T : Type 0} (file : FileNo) (four : Four T) (x : T) → is_log_file file ≡ true
+    → (with_file four file x).master ≡ four.master
+log_master Master four x in_log = absurd (true≢false (sym in_log))
+log_master LogA four x in_log = refl
+log_master LogB four x in_log = refl
+log_master Pages four x in_log = refl
+
 pub with_master : {T : Type 0} (four : Four T) → with_file four Master four.master ≡ four
 with_master four = refl
 
@@ -393,7 +401,7 @@ gate_log = record {
   long = omega arith;
 }
 
-first_byte : (xs : List ℕ) (byte : ℕ) → slice_index (put xs 0 (byte ∷ [])) 0 ≡ byte
+pub first_byte : (xs : List ℕ) (byte : ℕ) → slice_index (put xs 0 (byte ∷ [])) 0 ≡ byte
 first_byte xs byte = search (rules, places)
 
 module _ (log : Log) (records : List (List ImageData)) (old : Disk) (attached : IsAttached log records old)
@@ -420,6 +428,7 @@ module _ (log : Log) (records : List (List ImageData)) (old : Disk) (attached : 
         only = sym (with_master disk) ∙ ap (λ (d : Disk). with_file d Master disk.master) behind.only;
         other = behind.greatest;
         master = omega (arith, ap (λ (f : FileData). f.greatest) master);
+        some = omega (arith, attached.names.least, ap (λ (f : FileData). f.least) master);
         gives = λ image allowed. gives_before records old.pages home (files_of old) image refl
             (subst (λ (f : FileData). IsFileImage f image.pages) pages (allowed Pages))
             (each_has_tail records log.place log.file disk
@@ -453,6 +462,7 @@ module _ (log : Log) (records : List (List ImageData)) (old : Disk) (attached : 
               ∙ ap (λ (f : FileData). with_file (with_file old other f) Master disk.master) (sym fresh);
           other = omega (arith, ap (λ (f : FileData). f.greatest) fresh);
           master = omega (arith, moment.behind.greatest, ap (λ (f : FileData). f.greatest) mid_master);
+          some = least;
           gives = λ image allowed.
               let some : 0 < length image.master = omega (arith, least, (allowed Master).no_shorter) in
               let in_pages : IsFileImage old.pages image.pages =

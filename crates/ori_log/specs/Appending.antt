@@ -9,7 +9,7 @@ use Rattle.ori_volume.specs.Effects.{put, TornBytes}
 use Rattle.ori_volume.specs.Story.{Story, ChangesFile}
 use Rattle.ori_volume.specs.Runs.{Run, EachImage}
 use Rattle.ori_log.specs.Log.{ImageData, body_bytes, IsLogRecord}
-use Rattle.ori_log.specs.Files.{zeros_behind, appended}
+use Rattle.ori_log.specs.Files.{file_named, zeros_behind, appended}
 use Rattle.ori_log.specs.Images.{behind_gate}
 use Rattle.ori_log.specs.Logs.{HasTail, Names, HoldsLog, HoldsOneMore}
 use Rattle.ori_log.specs.Staging.{FilesBehind}
@@ -88,8 +88,12 @@ pub record FailsAs {T E : Type 0} (fault : E) (before now : ℕ) (result : Resul
 
 -- ---- the bytes alone
 
--- the log stands in these files: its file is as long as it knows, and the gate lies within
+-- The log stands in these files: the master has a byte, which is the one that the log knows and names its file, which
+-- is as long as it knows, and the gate lies within.
 pub record StandsIn (log : Log) (files : Files) : Type 0 where
+  pub some : 0 < length files.master
+  pub byte : log.master ≡ slice_index files.master 0
+  pub named : log.file ≡ file_named log.master
   pub long : log.length ≡ length (of_file files log.file)
   pub within : log.place < length (of_file files log.file)
 

@@ -2,7 +2,7 @@
 use Rattle.std.specs.Prelude.{◌≡◌, ℕ, ◌+◌, ◌≤◌, List, length, take, Result, OnOk}
 use Rattle.ori_bytes.specs.declared.limits.TheConstants.{MAX_LOG_BYTES}
 use Rattle.ori_volume.specs.declared.file.FileNo.{FileNo}
-use Rattle.ori_volume.specs.Disk.{of_file, with_file, Disk, Files}
+use Rattle.ori_volume.specs.Disk.{of_file, with_file, Files}
 use Rattle.ori_volume.specs.Effects.{put}
 use Rattle.ori_volume.specs.Story.{Story}
 use Rattle.ori_volume.specs.Runs.{Run}
@@ -13,26 +13,41 @@ use Rattle.ori_log.specs.declared.stage.Stage.{Stage}
 abbrev pub ahead : Stage → List ℕ → List ℕ
 ahead stage file = put file stage.at (take stage.filled stage.buffer.items)
 
--- what waits goes behind that place, and leaves no gap
-pub record IsReady (file : FileNo) (low : ℕ) (stage : Stage) (disk : Disk) : Type 0 where
+-- what waits goes behind that place of a file that reads so, and leaves no gap
+pub record IsReady (low : ℕ) (stage : Stage) (file : List ℕ) : Type 0 where
   pub behind : low ≤ stage.at
-  pub no_gap : stage.at ≤ length (of_file disk file).bytes
+  pub no_gap : stage.at ≤ length file
 
 -- these bytes were staged, behind those that waited
-pub record Staged (file : FileNo) (low : ℕ) (old_stage new_stage : Stage) (bytes : List ℕ)
-    (old new : Disk) : Type 0 where
-  pub ready : IsReady file low new_stage new
+pub record Staged (low : ℕ) (old_stage new_stage : Stage) (bytes old new : List ℕ) : Type 0 where
+  pub ready : IsReady low new_stage new
   pub reached : new_stage.at + new_stage.filled ≡ old_stage.at + old_stage.filled + length bytes
-  pub reads : ahead new_stage (of_file new file).bytes
-      ≡ put (ahead old_stage (of_file old file).bytes) (old_stage.at + old_stage.filled) bytes
+  pub reads : ahead new_stage new ≡ put (ahead old_stage old) (old_stage.at + old_stage.filled) bytes
 
--- staging these bytes changes nothing before the place where they begin, at any moment
+-- Staging these bytes keeps what stands before the place where they begin, and at Ok they are staged. What is kept is
+-- said of a state whose file is read so.
+abbrev pub StagesOn : {S T E : Type 0} → (S → List ℕ) → (ℕ → S → S → Type 0) → Stage → Stage → List ℕ → Result T E
+    → S → S → Type 0
+StagesOn file_of Keeps old_stage new_stage bytes result old new = (low : ℕ) → IsReady low old_stage (file_of old)
+    → Keeps low old new × OnOk result (Staged low old_stage new_stage bytes (file_of old) (file_of new))
+
+-- ---- the disk at every moment
+
+abbrev pub disk_bytes : FileNo → Story → List ℕ
+disk_bytes file story = (of_file story.now.disk file).bytes
+
+-- nothing before that place changes at any moment
+abbrev pub KeepsFront : FileNo → ℕ → Story → Story → Type 0
+KeepsFront file low old new = Run (Behind file low MAX_LOG_BYTES old.now.disk) old new
+
 abbrev pub Stages : {T E : Type 0} → FileNo → Stage → Stage → List ℕ → Result T E → Story → Story → Type 0
-Stages file old_stage new_stage bytes result old new = (low : ℕ) → IsReady file low old_stage old.now.disk
-    → Run (Behind file low MAX_LOG_BYTES old.now.disk) old new
-    × OnOk result (Staged file low old_stage new_stage bytes old.now.disk new.now.disk)
+Stages file old_stage new_stage bytes result old new =
+    StagesOn (disk_bytes file) (KeepsFront file) old_stage new_stage bytes result old new
 
 -- ---- the bytes alone
+
+abbrev pub file_bytes : FileNo → Files → List ℕ
+file_bytes file files = of_file files file
 
 -- no other file has changed, and this one is no shorter, and as it was below that place
 pub record FilesBehind (file : FileNo) (low : ℕ) (old new : Files) : Type 0 where
@@ -40,15 +55,6 @@ pub record FilesBehind (file : FileNo) (low : ℕ) (old new : Files) : Type 0 wh
   pub same : take low (of_file new file) ≡ take low (of_file old file)
   pub long : length (of_file old file) ≤ length (of_file new file)
 
-pub record StagedFiles (file : FileNo) (low : ℕ) (old_stage new_stage : Stage) (bytes : List ℕ)
-    (old new : Files) : Type 0 where
-  pub behind : low ≤ new_stage.at
-  pub no_gap : new_stage.at ≤ length (of_file new file)
-  pub reached : new_stage.at + new_stage.filled ≡ old_stage.at + old_stage.filled + length bytes
-  pub reads : ahead new_stage (of_file new file)
-      ≡ put (ahead old_stage (of_file old file)) (old_stage.at + old_stage.filled) bytes
-
 abbrev pub StagesFiles : {T E : Type 0} → FileNo → Stage → Stage → List ℕ → Result T E → Files → Files → Type 0
-StagesFiles file old_stage new_stage bytes result old new = (low : ℕ) → low ≤ old_stage.at
-    → old_stage.at ≤ length (of_file old file)
-    → FilesBehind file low old new × OnOk result (StagedFiles file low old_stage new_stage bytes old new)
+StagesFiles file old_stage new_stage bytes result old new =
+    StagesOn (file_bytes file) (FilesBehind file) old_stage new_stage bytes result old new

@@ -13,7 +13,7 @@ use Rattle.ori_log.specs.Log.{ImageData, images_of, last_image, home_of, pages_o
 use Rattle.ori_log.specs.Files.{other_log, files_data, Behind}
 use Rattle.ori_log.specs.Logs.{GivesPages}
 use Rattle.ori_log.specs.Opening.{IsFirm}
-use Rattle.ori_log.specs.Appending.{IsAttached}
+use Rattle.ori_log.specs.Appending.{IsAttached, StandsIn}
 use Rattle.ori_log.specs.declared.log.Log.{Log}
 
 -- Each page's home is stably its last image: nothing of the file of pages is loose, and of each page that these records
@@ -26,11 +26,12 @@ pub record AreHome (records : List (List ImageData)) (pages : FileData) : Type 0
       → home_of pages.bytes page ≡ content
 
 -- A moment of a switch from this file: only the other log and the master have changed, neither is longer than a byte
--- where it was no longer, and each image gives these pages.
+-- where it was no longer, the master has a byte, and each image gives these pages.
 pub record SwitchMoment (file : FileNo) (pages : List (List ℕ)) (old disk : Disk) : Type 0 where
   pub only : disk ≡ with_file (with_file old (other_log file) (of_file disk (other_log file))) Master disk.master
   pub other : (of_file disk (other_log file)).greatest ≤ max (of_file old (other_log file)).greatest 1
   pub master : disk.master.greatest ≤ max old.master.greatest 1
+  pub some : 0 < disk.master.least
   pub gives : EachImage (GivesPages pages) disk
 
 -- Every moment of the call is one of the switch, with the pages from before. After Ok the other file is the log: it is
@@ -64,9 +65,11 @@ pub record CutShort (file : FileNo) (old new : Files) : Type 0 where
   pub either : (new.master ≡ old.master)
       ⊎ ((of_file new (other_log file) ≡ CLOSED_GATE ∷ []) × TornBytes 0 1 old.master new.master)
 
-abbrev pub SwitchesFiles : {T E : Type 0} → FileNo → ℕ → Result T E → Files → Files → Type 0
-SwitchesFiles file byte (Ok _) old new = new ≡ switched_files file byte old
-SwitchesFiles file byte (Err _) old new = CutShort file old new
+-- a log that stood in the files stands in those that a switch leaves
+abbrev pub SwitchesFiles : {T E : Type 0} → Log → Log → Result T E → Files → Files → Type 0
+SwitchesFiles old_log new_log (Ok _) old new =
+    (new ≡ switched_files old_log.file old_log.master old) × (StandsIn old_log old → StandsIn new_log new)
+SwitchesFiles old_log new_log (Err _) old new = CutShort old_log.file old new
 
 -- ---- in two steps
 

@@ -2,7 +2,8 @@
 ghost use Rattle.std.specs.Prelude.{◌≡◌, ◌<◌, ◌≤◌, ℕ, List, Some, OnOk, IfOk, IfSome, IsErrOf};
 ghost use Rattle.ori_volume.specs.declared.file.FileNo.{FileNo};
 ghost use Rattle.ori_volume.specs.Disk.{Files};
-ghost use Rattle.ori_volume.specs.Story.{Tells, Reads};
+ghost use Rattle.ori_volume.specs.OnlyRead.{IsOnlyRead};
+ghost use Rattle.ori_volume.specs.Story.{Tells};
 ghost use Rattle.ori_log.specs.Log.{ImageData};
 ghost use Rattle.ori_log.specs.Appending.{FailsAs, StandsIn};
 ghost use Rattle.ori_log.specs.Attaching.{AttachesTo, AttachesMade, Attaches, AttachesFirm, IsKeptOrMade};
@@ -61,10 +62,8 @@ fn attach_made<V: Volume>(
     ensures not_a_log { (file : FileNo) → IsErrOf result (LogFault.NotALog file)
         → IfSome (V.files volume.old) (λ fs. BreaksFirst fs file) }
     ensures never_full { (need room : ℕ) → IsErrOf result (LogFault.LogFull need room) → ⊥ }
-    ensures files { V.files volume.new ≡ V.files volume.old }
-    ensures story { Tells Reads (V.story volume.old) (V.story volume.new) }
+    ensures same { IsOnlyRead V.files V.story V.moment V.log_faults volume.old volume.new }
     ensures faults { FailsAs LogFault.Failed (V.faults volume.old) (V.faults volume.new) result }
-    ensures log_faults { V.log_faults volume.new ≡ V.log_faults volume.old }
 {
     if sizes.master > 1 {
         return Err(LogFault::NotALog {

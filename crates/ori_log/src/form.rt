@@ -6,7 +6,7 @@ ghost use Rattle.std.specs.BTreeMap.{get};
 ghost use Rattle.ori_volume.specs.Causes.{HasCause};
 ghost use Rattle.ori_volume.specs.declared.file.FileNo.{FileNo};
 ghost use Rattle.ori_volume.specs.Disk.{of_file};
-ghost use Rattle.ori_volume.specs.Story.{Tells, Reads};
+ghost use Rattle.ori_volume.specs.OnlyRead.{IsOnlyRead};
 ghost use Rattle.ori_log.specs.Log.{ImageData, IsLog};
 ghost use Rattle.ori_log.specs.Files.{is_log_file, file_named};
 ghost use Rattle.ori_log.specs.Appending.{FailsAs};
@@ -36,10 +36,8 @@ pub fn named_by(byte: u8) -> FileNo
 /// The master's byte.
 pub fn read_master<V: Volume>(volume: &mut V) -> Result<u8, Failed>
     ensures value { IfOk result (λ byte. IfSome (V.files volume.old) (λ fs. byte ≡ slice_index fs.master 0)) }
-    ensures files { V.files volume.new ≡ V.files volume.old }
-    ensures story { Tells Reads (V.story volume.old) (V.story volume.new) }
+    ensures same { IsOnlyRead V.files V.story V.moment V.log_faults volume.old volume.new }
     ensures faults { HasCause (V.faults volume.old) (V.faults volume.new) result }
-    ensures log_faults { V.log_faults volume.new ≡ V.log_faults volume.old }
 {
     let mut byte = [0];
     volume.read_at(FileNo::Master, 0, &mut byte)?;
@@ -79,10 +77,8 @@ fn read_active<V: Volume>(
     ensures not_a_log { (named : FileNo) → IsErrOf result (LogFault.NotALog named) → (named ≡ file)
         × IfSome (V.files volume.old) (λ fs. StandsAsLog (of_file fs file) → ⊥) }
     ensures never_full { (need room : ℕ) → IsErrOf result (LogFault.LogFull need room) → ⊥ }
-    ensures files { V.files volume.new ≡ V.files volume.old }
-    ensures story { Tells Reads (V.story volume.old) (V.story volume.new) }
+    ensures same { IsOnlyRead V.files V.story V.moment V.log_faults volume.old volume.new }
     ensures faults { FailsAs LogFault.Failed (V.faults volume.old) (V.faults volume.new) result }
-    ensures log_faults { V.log_faults volume.new ≡ V.log_faults volume.old }
 {
     let length = sizes.of(file);
     if length > MAX_LOG_BYTES {
@@ -107,10 +103,8 @@ pub fn read_made<V: Volume>(
     ensures not_a_log { (named : FileNo) → IsErrOf result (LogFault.NotALog named)
         → IfSome (V.files volume.old) (λ fs. BreaksFirst fs named) }
     ensures never_full { (need room : ℕ) → IsErrOf result (LogFault.LogFull need room) → ⊥ }
-    ensures files { V.files volume.new ≡ V.files volume.old }
-    ensures story { Tells Reads (V.story volume.old) (V.story volume.new) }
+    ensures same { IsOnlyRead V.files V.story V.moment V.log_faults volume.old volume.new }
     ensures faults { FailsAs LogFault.Failed (V.faults volume.old) (V.faults volume.new) result }
-    ensures log_faults { V.log_faults volume.new ≡ V.log_faults volume.old }
 {
     if sizes.log_a > MAX_LOG_BYTES {
         return Err(LogFault::NotALog { file: FileNo::LogA });

@@ -118,8 +118,7 @@ impl Log {
         ensures fault { OnErr result (result ≡ Err LogFault.Failed) }
         ensures counts { OnOk result ((self.new.tail ≡ 0) × (self.new.place ≡ 0)
             × (self.new.file ≡ other_log self.old.file) × (self.new.length ≡ 1)) }
-        ensures files { Tells (SwitchesFiles self.old.file self.old.master result) (V.files volume.old)
-            (V.files volume.new) }
+        ensures files { Tells (SwitchesFiles self.old self.new result) (V.files volume.old) (V.files volume.new) }
         ensures crash { Tells (Switches self.old self.new result) (V.story volume.old) (V.story volume.new) }
         ensures faults { FailsAs LogFault.Failed (V.faults volume.old) (V.faults volume.new) result }
         ensures log_faults { FailsAs LogFault.Failed (V.log_faults volume.old) (V.log_faults volume.new) result }

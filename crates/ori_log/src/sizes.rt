@@ -3,7 +3,7 @@ ghost use Rattle.std.specs.Prelude.{◌≡◌, [], IfOk, IfSome, Some, None, len
 ghost use Rattle.ori_volume.specs.Causes.{HasCause};
 ghost use Rattle.ori_volume.specs.declared.file.FileNo.{FileNo};
 ghost use Rattle.ori_volume.specs.Disk.{Files, of_file};
-ghost use Rattle.ori_volume.specs.Story.{Tells, Reads};
+ghost use Rattle.ori_volume.specs.OnlyRead.{IsOnlyRead};
 
 use ori_volume::{Failed, FileNo, Volume};
 
@@ -24,10 +24,8 @@ impl Sizes {
     /// Those of a volume.
     pub fn read<V: Volume>(volume: &mut V) -> Result<Self, Failed>
         ensures value { IfOk result (λ sizes. IfSome (V.files volume.old) (λ fs. Measures sizes fs)) }
-        ensures files { V.files volume.new ≡ V.files volume.old }
-        ensures story { Tells Reads (V.story volume.old) (V.story volume.new) }
+        ensures same { IsOnlyRead V.files V.story V.moment V.log_faults volume.old volume.new }
         ensures faults { HasCause (V.faults volume.old) (V.faults volume.new) result }
-        ensures log_faults { V.log_faults volume.new ≡ V.log_faults volume.old }
     {
         let master = volume.len(FileNo::Master)?;
         let log_a = volume.len(FileNo::LogA)?;

@@ -4,7 +4,7 @@ ghost use Rattle.std.specs.Prelude.{IfOk, IfErr, IfSome, OnOk, IsErrOf, IsTrue, 
 ghost use Rattle.ori_volume.specs.Causes.{HasCause};
 ghost use Rattle.ori_volume.specs.Disk.{of_file};
 ghost use Rattle.ori_volume.specs.Effects.{read_bytes};
-ghost use Rattle.ori_volume.specs.Story.{Tells, Reads};
+ghost use Rattle.ori_volume.specs.OnlyRead.{IsOnlyRead};
 ghost use Rattle.ori_volume.specs.declared.file.FileNo.{FileNo};
 ghost use Rattle.ori_log.specs.Log.{ImageData, image_bytes};
 ghost use Rattle.ori_log.specs.Images.{image_data, IsWhole};
@@ -48,10 +48,8 @@ impl Head {
     fn read<V: Volume>(volume: &mut V, file: FileNo, at: u64) -> Result<Self, Failed>
         ensures value { IfOk result (λ head. IfSome (V.files volume.old)
             (λ fs. read_bytes (of_file fs file) at HEAD_BYTES ≡ head_bytes head)) }
-        ensures files { V.files volume.new ≡ V.files volume.old }
-        ensures story { Tells Reads (V.story volume.old) (V.story volume.new) }
+        ensures same { IsOnlyRead V.files V.story V.moment V.log_faults volume.old volume.new }
         ensures faults { HasCause (V.faults volume.old) (V.faults volume.new) result }
-        ensures log_faults { V.log_faults volume.new ≡ V.log_faults volume.old }
     {
         let mut bytes = [0; HEAD_BYTES];
         volume.read_at(file, at, &mut bytes)?;
@@ -103,10 +101,8 @@ fn read_image<V: Volume>(
         (λ fs. read_bytes (of_file fs file) at IMAGE_BYTES ≡ image_bytes (image_data image))) }
     ensures whole { IfOk result (λ image. IsWhole (image_data image)) }
     ensures fault { IfErr result (λ fault. (fault ≡ LogFault.Failed) ⊎ (fault ≡ LogFault.NoMemory)) }
-    ensures files { V.files volume.new ≡ V.files volume.old }
-    ensures story { Tells Reads (V.story volume.old) (V.story volume.new) }
+    ensures same { IsOnlyRead V.files V.story V.moment V.log_faults volume.old volume.new }
     ensures faults { FailsAs LogFault.Failed (V.faults volume.old) (V.faults volume.new) result }
-    ensures log_faults { V.log_faults volume.new ≡ V.log_faults volume.old }
 {
     let mut bytes = [0; IMAGE_BYTES as usize];
     volume.read_at(file, at, &mut bytes)?;
@@ -138,10 +134,8 @@ fn read_next<V: Volume>(
         × IfSome (V.files volume.old) (λ fs.
         (image : ImageData) × BreaksOff (read_bytes (of_file fs file) at IMAGE_BYTES) low image) }
     ensures never_full { (need room : ℕ) → IsErrOf result (LogFault.LogFull need room) → ⊥ }
-    ensures files { V.files volume.new ≡ V.files volume.old }
-    ensures story { Tells Reads (V.story volume.old) (V.story volume.new) }
+    ensures same { IsOnlyRead V.files V.story V.moment V.log_faults volume.old volume.new }
     ensures faults { FailsAs LogFault.Failed (V.faults volume.old) (V.faults volume.new) result }
-    ensures log_faults { V.log_faults volume.new ≡ V.log_faults volume.old }
 {
     let image = read_image(alloc, volume, file, at)?;
     if !follows(image.page, low) {
@@ -192,10 +186,8 @@ impl Tail {
             self.old.place + 9 + IMAGE_BYTES * count ≤ length (of_file fs file)
             → AreNoImages (drop (self.old.place + 9) (of_file fs file)) count) }
         ensures never_full { (need room : ℕ) → IsErrOf result (LogFault.LogFull need room) → ⊥ }
-        ensures files { V.files volume.new ≡ V.files volume.old }
-        ensures story { Tells Reads (V.story volume.old) (V.story volume.new) }
+        ensures same { IsOnlyRead V.files V.story V.moment V.log_faults volume.old volume.new }
         ensures faults { FailsAs LogFault.Failed (V.faults volume.old) (V.faults volume.new) result }
-        ensures log_faults { V.log_faults volume.new ≡ V.log_faults volume.old }
     {
         let first = self.place + HEAD_BYTES as u64;
         let mut low = 0;
@@ -231,10 +223,8 @@ impl Tail {
             → (records : List (List ImageData)) → ReadTo (of_file fs file) records self.old
             → IsNoLog (of_file fs file)) }
         ensures never_full { (need room : ℕ) → IsErrOf result (LogFault.LogFull need room) → ⊥ }
-        ensures files { V.files volume.new ≡ V.files volume.old }
-        ensures story { Tells Reads (V.story volume.old) (V.story volume.new) }
+        ensures same { IsOnlyRead V.files V.story V.moment V.log_faults volume.old volume.new }
         ensures faults { FailsAs LogFault.Failed (V.faults volume.old) (V.faults volume.new) result }
-        ensures log_faults { V.log_faults volume.new ≡ V.log_faults volume.old }
     {
         if self.place >= len {
             return Err(LogFault::NotALog { file });
@@ -270,10 +260,8 @@ impl Tail {
             × IfSome (V.files volume.old) (λ fs.
             len ≡ length (of_file fs file) → IsNoLog (of_file fs file)) }
         ensures never_full { (need room : ℕ) → IsErrOf result (LogFault.LogFull need room) → ⊥ }
-        ensures files { V.files volume.new ≡ V.files volume.old }
-        ensures story { Tells Reads (V.story volume.old) (V.story volume.new) }
+        ensures same { IsOnlyRead V.files V.story V.moment V.log_faults volume.old volume.new }
         ensures faults { FailsAs LogFault.Failed (V.faults volume.old) (V.faults volume.new) result }
-        ensures log_faults { V.log_faults volume.new ≡ V.log_faults volume.old }
     {
         let mut tail = Tail::new(alloc);
         loop {

@@ -1,17 +1,12 @@
 -- The plain data that the code's schemas, records, bases, changes and entries stand for.
 use Rattle.std.specs.Prelude.{ℕ, ℤ, pos, negsuc, List, map}
-use Rattle.ori_spec_data.specs.Base.{KindData, of_boolean, of_integer, of_short, of_long, of_datetime, of_str}
-use Rattle.ori_spec_data.specs.Base.{of_binary, of_embedded, of_embedded_list, of_embedded_map, of_link, of_link_list}
-use Rattle.ori_spec_data.specs.Base.{of_link_set, of_link_map, of_byte, PropertyData, ClassData, IndexData, SchemaData}
+use Rattle.ori_spec_data.specs.Base.{PropertyData, ClassData, IndexData, SchemaData}
 use Rattle.ori_spec_data.specs.Base.{RecordData, DirData, out, into, BagNameData, BaseData, ChangeData, create, update}
 use Rattle.ori_spec_data.specs.Base.{delete, touch, TxData, DefinitionData, new_class, new_property, new_index}
 use Rattle.ori_spec_data.specs.Base.{EntryData, commit, define}
 use Rattle.ori_spec_data.specs.Refusing.{RuleData, no_class, ends, temporary_link, version_end, of_kind, mandatory}
 use Rattle.ori_spec_data.specs.Refusing.{not_null, readonly, least, greatest}
-use Rattle.ori_value.specs.declared.kind.Kind.{Kind}
-use Rattle.ori_value.specs.declared.kind.Kind.TheVariants.{Boolean, Integer, Short, Long, Datetime, Str, Binary}
-use Rattle.ori_value.specs.declared.kind.Kind.TheVariants.{Embedded, EmbeddedList, EmbeddedMap, Link, LinkList, LinkSet}
-use Rattle.ori_value.specs.declared.kind.Kind.TheVariants.{LinkMap, Byte}
+use Rattle.ori_value.specs.Kinds.{kind_of}
 use Rattle.ori_model.specs.declared.schema.Property.{Property}
 use Rattle.ori_model.specs.declared.schema.Class.{Class}
 use Rattle.ori_model.specs.declared.schema.IndexDef.{IndexDef}
@@ -31,23 +26,6 @@ use Rattle.ori_model.specs.declared.entry.Entry.TheVariants.{Commit, Define}
 use Rattle.ori_model.specs.declared.fault.Rule.{Rule}
 use Rattle.ori_model.specs.declared.fault.Rule.TheVariants.{NoClass, Ends, Temporary, VersionEnd, OfKind, Mandatory}
 use Rattle.ori_model.specs.declared.fault.Rule.TheVariants.{NotNull, Readonly, Min, Max}
-
-abbrev pub kind_of : Kind → KindData
-kind_of Boolean = of_boolean
-kind_of Integer = of_integer
-kind_of Short = of_short
-kind_of Long = of_long
-kind_of Datetime = of_datetime
-kind_of Str = of_str
-kind_of Binary = of_binary
-kind_of Embedded = of_embedded
-kind_of EmbeddedList = of_embedded_list
-kind_of EmbeddedMap = of_embedded_map
-kind_of Link = of_link
-kind_of LinkList = of_link_list
-kind_of LinkSet = of_link_set
-kind_of LinkMap = of_link_map
-kind_of Byte = of_byte
 
 abbrev pub property_of : Property → PropertyData
 property_of p = record {

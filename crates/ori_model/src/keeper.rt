@@ -21,9 +21,10 @@ pub trait Keeper: Reader {
     fn halted(&self) -> Option<u64>
         ensures { result ≡ (Self.state self.now).halted };
 
-    /// Commits a session's formed transaction, or says why not. It is decided on the base as it is, each refusal where the
-    /// earlier ones of `CommitFault` don't stand. After each but `Fault` nothing has changed but the count of its cause. After
-    /// `Fault` commits may have ended, and this entry may be in doubt: a reopening tells whether it joined.
+    /// Commits a session's formed transaction, or says why not. It is decided on the base as it is, each refusal where
+    /// the earlier ones of `CommitFault` don't stand. At Ok its entry joins the feed, and the base is what that makes
+    /// of it. After a refusal nothing has changed but the count of its cause; after `Fault` no more than that, or that
+    /// commits have ended and this entry is in doubt: a reopening tells whether it joined.
     fn commit(&mut self, session: u8, tx: &Tx) -> Result<Done, CommitFault>
         requires { IsFormed (tx_of tx.now) }
         ensures decided { Decides (Self.state self.old) session (asks_commit (tx_of tx.now)) (decision_of result)
@@ -35,7 +36,8 @@ pub trait Keeper: Reader {
     /// It shows the base, where it tells one, and else nothing.
     ghost shows_base: { (keeper : Self) → Self.view keeper ≡ option_map view_of (Self.state keeper).base };
 
-    /// One that tells the base tells all that commits are decided on, and one that tells the opening's base has its own by the feed.
+    /// One that tells the base tells all that commits are decided on, and one that tells the opening's base has its own
+    /// by the feed.
     ghost tells_all: { (keeper : Self) → TellsAll (Self.state keeper) };
 
     /// Its front is the number of the entries.

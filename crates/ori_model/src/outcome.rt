@@ -21,7 +21,8 @@ pub struct Report {
     pub history: EntryList,
     /// The entry whose writing failed and that no reopening has decided.
     pub doubt: Option<Entry>,
-    /// The entries whose writing failed and that a reopening has decided, each with the history's length at its failure.
+    /// The entries whose writing failed and that a reopening has decided, each with the history's length at its
+    /// failure.
     pub failed: PlacedList,
     /// For each entry of the history the volume's moment when it was acknowledged, or when a reopening found it.
     pub marks: NumberList,

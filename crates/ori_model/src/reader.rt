@@ -12,8 +12,8 @@ ghost use Rattle.ori_model.specs.Standing.{IsUnchanged};
 use crate::{ReadFault, Schema, Stored};
 use ori_bytes::{Causes, Rid};
 
-/// A database that can be read. It may tell a view: the schema and the records that its reads give. What it tells stays, and so
-/// does its state: reads change no more than the counts.
+/// A database that can be read. It may tell a view: the schema and the records that its reads give. What it tells
+/// stays, and so does its state: reads change no more than the counts.
 pub trait Reader {
     /// What it shows, where it tells that.
     ghost view: { Self → Option ViewData };
@@ -21,14 +21,15 @@ pub trait Reader {
     /// What a keeper of a database keeps. For other readers it is any state.
     ghost state: { Self → StateData };
 
-    /// The reference that it holds to another reader, by the number that proofs give it, and what stands behind it. No call
-    /// changes either, so that whoever lends a reader knows it again after any reader through it.
+    /// The reference that it holds to another reader, by the number that proofs give it, and what stands behind it. No
+    /// call changes either, so that whoever lends a reader knows it again after any reader through it.
     ghost lent: { Self → ℕ };
 
     ghost below: { Self → BelowData };
 
-    /// A fact about the outside since an earlier moment, of which a story was told or none, and which every call keeps: what whoever
-    /// made the reader knows, such as what a crash leaves. By it that passes through code which reads and commits by the traits alone.
+    /// A fact about the outside since an earlier moment, of which a story was told or none, and which every call keeps:
+    /// what whoever made the reader knows, such as what a crash leaves. By it that passes through code which reads and
+    /// commits by the traits alone.
     ghost sound: { Self → Option Story → Type 0 } = { λ _ _. Unit {0} };
 
     /// How many records it has given.
@@ -41,8 +42,8 @@ pub trait Reader {
     fn schema(&self) -> &Schema
         ensures { IfSome (view self.now) (λ shown. schema_of result.now ≡ shown.schema) };
 
-    /// The record with an identifier, or `None` where there is none. Its fields are such as a record may have. After an `Err`
-    /// nothing has changed but the count of its cause: a later fetch may succeed.
+    /// The record with an identifier, or `None` where there is none. Its fields are such as a record may have. After an
+    /// `Err` nothing has changed but the count of its cause: a later fetch may succeed.
     fn fetch(&mut self, rid: Rid) -> Result<Option<Stored>, ReadFault>
         ensures found { IfOk result (IsFetched (view self.old) rid) }
         ensures own { IfOk result (λ found. IfSome found (λ stored. (stored.rid ≡ rid) × HasOwnFields stored.fields)) }

@@ -1,6 +1,8 @@
 // How many bytes records and entries count.
 ghost use Rattle.std.specs.Prelude.{◌≡◌, ◌+◌, ◌≤◌, length, map, IfOk};
-ghost use Rattle.ori_spec_data.specs.Sizes.{varint_size, count_size, text_size, link_size, rids_size, links_count, links_size, trees_count, fields_count, value_size, items_size, entries_size, fields_size, record_size};
+ghost use Rattle.ori_spec_data.specs.Sizes.{varint_size, count_size, text_size, link_size, rids_size, links_count};
+ghost use Rattle.ori_spec_data.specs.Sizes.{links_size, trees_count, fields_count, value_size, items_size};
+ghost use Rattle.ori_spec_data.specs.Sizes.{entries_size, fields_size, record_size};
 ghost use Rattle.ori_spec_data.specs.Weighing.{changes_bytes};
 ghost use Rattle.ori_spec_data.specs.Weighing as weighing;
 ghost use Rattle.ori_value.specs.View.{tree_of};

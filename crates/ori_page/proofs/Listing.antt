@@ -8,13 +8,12 @@ use Rattle.std.proofs.Math.Seq.{get_or-append_seam}
 use Rattle.std.proofs.Math.ListN.{get_or-append}
 use Rattle.std.proofs.lemmas.Bool.{eq-eqb, ne_eqb, lt-ltb, and_from}
 use Rattle.std.proofs.Math.Nat.{max-eq_left, max-eq_right}
-use Rattle.ori_bytes.specs.declared.limits.TheConstants.{HEAD_KIND}
-use Rattle.ori_bytes.specs.declared.limits.TheConstants.{FREE_KIND}
+use Rattle.ori_bytes.specs.declared.limits.TheConstants.{MAX_PAGES, HEAD_KIND, FREE_KIND}
 use Rattle.ori_page.specs.declared.head.Head.{Head}
 use Rattle.ori_page.specs.Pages.{owner_of, kind_of, next_of, fresh_page, free_page}
 use Rattle.ori_page.specs.Heads.{head_of, with_head, Fits32, KeepsHead}
 use Rattle.ori_page.specs.Spaces.{page_at, head_in, is_used, in_use, IsFree, IsChain}
-use Rattle.ori_page.specs.Spaces.{is_head, is_listed, HasFreeList, IsTaken, IsReleased}
+use Rattle.ori_page.specs.Spaces.{is_head, is_listed, HasFreeList, AreFull, KeepsFreeList, IsTaken, IsReleased}
 use Rattle.ori_page.proofs.Heading.{ReadsAs, head_reads, head_rest, free_next, free_owner, free_kind}
 
 -- ---- the pages after it
@@ -358,3 +357,52 @@ head_sound pages some l =
 pub listed_sound : (pages : List (List ℕ)) → 0 < length pages → (l : HasFreeList pages)
     → 0 < (head_in pages).first_free → is_listed pages (head_in pages).first_free ≡ true
 listed_sound pages some l above = first_listed pages (head_in pages).first_free l.free some above l.chain
+
+-- ---- a page in use is written
+
+-- a page that isn't free is there
+pub used_below : (pages : List (List ℕ)) (p : ℕ) → kind_of (page_at pages p) ≢ FREE_KIND → p < length pages
+used_below [] p used = absurd (used refl)
+used_below (page ∷ rest) zero used = omega arith
+used_below (page ∷ rest) (suc p) used = let below = used_below rest p used in omega (arith, below)
+
+-- the list of free pages stays, with as many pages in use
+pub kept_list : (pages : List (List ℕ)) (p : ℕ) (page : List ℕ) → KeepsFreeList p page pages (set pages p page)
+unfolding in_use
+kept_list pages p page above used is l =
+    let after = set pages p page in
+    let first = (head_in pages).first_free in
+    let low : p < length pages = used_below pages p used in
+    let change : in_use after + weight (page_at pages p) ≡ in_use pages + weight page
+    = sum_by-set weight pages p page [] low in
+    let same : in_use after ≡ in_use pages
+    = omega (arith, change, weight_used (page_at pages p) used, weight_used page is) in
+    let len : length after ≡ length pages = length-set pages p page in
+    let head : page_at after 0 ≡ page_at pages 0 = get_or-set_other pages p 0 page [] (λ e. above (sym e)) in
+    let stays : (q : ℕ) → Contains l.free q → page_at after q ≡ page_at pages q
+    = λ q m. get_or-set_other pages p q page [] (λ e. used
+    (subst (λ (x : ℕ). kind_of (page_at pages x) ≡ FREE_KIND) e (chain_free pages first l.free l.chain q m).kind)) in (
+      record {
+        owner = ap owner_of head ∙ l.owner;
+        kind = ap kind_of head ∙ l.kind;
+        count = ap (λ h. (head_of h).count) head ∙ l.count ∙ sym len;
+        free = l.free;
+        free_count = ap (λ h. (head_of h).free_count) head ∙ l.free_count;
+        chain = subst (λ (n : ℕ). IsChain after n l.free) (sym (ap (λ h. (head_of h).first_free) head))
+            (chain_stays pages after first l.free (omega (arith, len)) stays l.chain);
+        all = omega (arith, l.all, same, len);
+      },
+      same,
+    )
+
+-- ---- the pages are full
+
+none_listed : (pages : List (List ℕ)) (p : ℕ) (free : List ℕ) → p ≡ 0 → IsChain pages p free → length free ≡ 0
+none_listed pages p [] none h = refl
+none_listed pages p (q ∷ rest) none h = absurd (omega (arith, none, h.0, h.1.above))
+
+-- all of the greatest number of pages are in use
+pub full_in_use : (pages : List (List ℕ)) → AreFull pages → HasFreeList pages → in_use pages ≡ MAX_PAGES
+full_in_use pages full l =
+    let none : length l.free ≡ 0 = none_listed pages (head_in pages).first_free l.free full.none l.chain in
+    omega (arith, l.all, none, full.count)

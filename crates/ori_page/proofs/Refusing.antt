@@ -1,7 +1,7 @@
 -- What a call on pages in memory answers, from what its steps did.
 use Rattle.std.proofs.Common.{◌≡◌, ◌≢◌, ℕ, ◌+◌, ◌-◌, ◌<◌, Bool, true, false, List, [], ◌∷◌, ◌++◌, length}
 use Rattle.std.proofs.Common.{set, Result, Ok, Err, sym, ap, subst, ◌∙◌, true≢false, cond, arith}
-use Rattle.std.specs.Result.{IfOk, IfErr, OnOk}
+use Rattle.std.specs.Result.{IfOk, IfErr, OnOk, IsErrOf}
 use Rattle.std.proofs.lemmas.Bool.{ne_eqb, eqb-true, ltb-true, and_parts}
 use Rattle.ori_bytes.specs.declared.limits.TheConstants.{MAX_PAGES, FREE_KIND}
 use Rattle.ori_page.specs.declared.head.Head.{Head}
@@ -9,10 +9,11 @@ use Rattle.ori_page.specs.declared.fault.PageFault.{PageFault}
 use Rattle.ori_page.specs.declared.fault.PageFault.TheVariants.{NoMemory, Device, Busy, Damaged, PagesFull}
 use Rattle.ori_page.specs.Pages.{kind_of, next_of, fresh_page, free_page}
 use Rattle.ori_page.specs.Heads.{with_head, Fits32}
-use Rattle.ori_page.specs.Spaces.{page_at, head_in, is_head, is_listed, IsDamaged, IsTaken}
+use Rattle.ori_page.specs.Spaces.{page_at, head_in, in_use, is_head, is_listed, HasFreeList, IsDamaged, IsTaken}
 use Rattle.ori_page.specs.Spaces.{IsReleased}
 use Rattle.ori_page.specs.Memory.{WhyNotReused, WhyNotTaken, WhyNotFreed}
 use Rattle.ori_page.proofs.Listing.{reused, freed, grown, rest_of, more_of, grown_of, head_sound, listed_sound}
+use Rattle.ori_page.proofs.Listing.{full_in_use}
 
 -- ---- no head
 
@@ -90,6 +91,13 @@ is_reused (Ok at) pages after head page owner kind same is above good h =
     ∙ ap (λ (x : List ℕ). set (set pages 0 (with_head (rest_of pages at) (page_at pages 0))) at x) is in
     subst (λ (a : List (List ℕ)). IsTaken owner kind at pages a) (sym e)
     (reused pages owner kind at first over low free fits)
+
+-- PagesFull comes only where all pages are in use
+pub full_answer : (r : Result ℕ PageFault) (pages : List (List ℕ)) → IfErr r (WhyNotTaken pages) → IsErrOf r PagesFull
+    → HasFreeList pages → in_use pages ≡ MAX_PAGES
+full_answer (Ok at) pages why is l = cc
+full_answer (Err fault) pages why is l =
+    let e : fault ≡ PagesFull = cc in full_in_use pages (subst (WhyNotTaken pages) e why) l
 
 -- ---- a page behind the last
 

@@ -84,6 +84,12 @@ abbrev pub KeepsOthers : ℕ → List (List ℕ) → List (List ℕ) → Type 0
 KeepsOthers p before after = (q : ℕ) → 0 < q → q < length before → q ≢ p → kind_of (page_at before q) ≢ FREE_KIND
     → page_at after q ≡ page_at before q
 
+-- Where a page in use, other than the head, was written over by one that isn't free, the list of free pages stands as
+-- it stood, and as many pages are in use.
+abbrev pub KeepsFreeList : ℕ → List ℕ → List (List ℕ) → List (List ℕ) → Type 0
+KeepsFreeList p content before after = p ≢ 0 → kind_of (page_at before p) ≢ FREE_KIND → kind_of content ≢ FREE_KIND
+    → HasFreeList before → HasFreeList after × (in_use after ≡ in_use before)
+
 -- p was a free page or is a new one, and is now an empty one of this owner and kind, taken off the list of free pages
 pub record IsTaken (owner kind p : ℕ) (before after : List (List ℕ)) : Type 0 where
   pub above : 0 < p

@@ -1,9 +1,12 @@
 // Pages as structures see them.
 ghost use Rattle.std.specs.Prelude.{◌≡◌, ◌≢◌, ◌<◌, ◌≤◌, ℕ, List, length, slice_set, IfOk, IfErr, OnOk, IsErr};
+ghost use Rattle.std.specs.Prelude.{IsErrOf};
 ghost use Rattle.ori_bytes.specs.declared.causes.Causes.{Causes};
-ghost use Rattle.ori_bytes.specs.declared.limits.TheConstants.{FREE_KIND};
+ghost use Rattle.ori_bytes.specs.declared.limits.TheConstants.{FREE_KIND, MAX_PAGES};
 ghost use Rattle.ori_page.specs.Pages.{owner_of, kind_of};
-ghost use Rattle.ori_page.specs.Spaces.{page_at, AreFull, IsTaken, IsReleased};
+ghost use Rattle.ori_page.specs.Spaces.{page_at, in_use, HasFreeList, AreFull, KeepsFreeList};
+ghost use Rattle.ori_page.specs.Spaces.{IsTaken, IsReleased};
+ghost use Rattle.ori_page.specs.declared.fault.PageFault.{PageFault};
 ghost use Rattle.ori_page.specs.Faults.{one_more, page_counted, IsOutside, MayNotTake, MayNotRelease};
 ghost use Rattle.ori_page.specs.Faults.{WhyRefused};
 
@@ -49,6 +52,8 @@ pub trait PageSpace {
         requires owner { owner_of content ≢ 0 }
         ensures pages { OnOk result ((pages : List (List ℕ)) → gives self.old pages
             → gives self.new (slice_set pages page content)) }
+        ensures listed { (pages : List (List ℕ)) → gives self.old pages
+            → KeepsFreeList page content pages (slice_set pages page content) }
         ensures count { OnOk result (count self.new ≡ count self.old) }
         ensures fault { IfErr result IsOutside }
         ensures keeps { keeps self.old self.new }
@@ -66,6 +71,8 @@ pub trait PageSpace {
         ensures fault { IfErr result MayNotTake }
         ensures why { IfErr result (λ fault. (pages : List (List ℕ)) → gives self.old pages → WhyRefused pages fault) }
         ensures full { (pages : List (List ℕ)) → gives self.old pages → AreFull pages → IsErr result }
+        ensures used_up { IsErrOf result PageFault.PagesFull → (pages : List (List ℕ)) → gives self.old pages
+            → HasFreeList pages → in_use pages ≡ MAX_PAGES }
         ensures keeps { keeps self.old self.new }
         ensures causes { causes self.new ≡ page_counted result (causes self.old) }
         ensures reads { reads self.new ≡ reads self.old };

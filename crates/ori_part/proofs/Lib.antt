@@ -1,1 +1,3 @@
+mod Looking
 pub mod Places
+mod Settling

@@ -1,12 +1,14 @@
 -- The first unwritten place, as places are added and changed.
 use Rattle.std.proofs.Common.{◌≡◌, ℕ, zero, suc, ◌+◌, ◌<◌, ◌≤◌, Bool, true, false, ◌&&◌, cond, List, []}
 use Rattle.std.proofs.Common.{◌∷◌, ◌++◌, length, get_or, Option, Some, None, nat_eq, is_some, refl, sym, ap}
-use Rattle.std.proofs.Common.{subst, ◌∙◌, arith}
+use Rattle.std.proofs.Common.{subst, ◌∙◌, arith, not, ap₂, true≢false}
 use Rattle.std.specs.Option.{option_map}
-use Rattle.std.specs.List.{slice_get}
+use Rattle.std.specs.List.{slice_get, AllByRecursion, IsDistinct, filter}
+use Rattle.std.proofs.lemmas.Bool.{eqb-true}
 use Rattle.std.specs.Map.{keys_of, lookup, set_value}
 use Rattle.ori_part.specs.declared.place.Place.{Place}
-use Rattle.ori_part.specs.Parts.{PartData, bare, reserved, is_unwritten, first_unwritten, unwritten_page}
+use Rattle.ori_part.specs.Parts.{PartData, bare, unwritten, reserved, is_unwritten, first_unwritten, unwritten_page}
+use Rattle.ori_part.specs.Parts.{is_dirty, dirty_in}
 
 -- one more place
 pub first_push : (es : List (ℕ × Place)) (e : ℕ × Place) → first_unwritten es ≤ first_unwritten (es ++ e ∷ [])
@@ -125,3 +127,65 @@ pub first_written : (test : ℕ → Bool) (es : List (ℕ × Place)) (place : Pl
     → first_unwritten es ≤ first_unwritten (set_value test es (record place { written = true }))
 first_written test es place = first_marked test es (record place { written = true })
     (elim (is_some place.content) as (λ b. (b && false) ≡ false) [ true ↦ refl | false ↦ refl ])
+
+-- an unwritten place has a content
+unwritten_of : (content : Option (List ℕ)) (is_written : Bool) → (is_some content && not is_written) ≡ true
+    → (c : List ℕ) × (content ≡ Some c) × (is_written ≡ false)
+unwritten_of None is_written h = absurd (true≢false (sym h))
+unwritten_of (Some c) true h = absurd (true≢false (sym h))
+unwritten_of (Some c) false h = (c, refl, refl)
+
+there_unwritten : (es : List (ℕ × Place)) (e : ℕ × Place) → slice_get es (first_unwritten es) ≡ Some e
+    → is_unwritten e.1 ≡ true
+there_unwritten [] e at = cc
+there_unwritten (x ∷ es) e at =
+    (elim (is_unwritten x.1) as (λ b. is_unwritten x.1 ≡ b
+    → slice_get (x ∷ es) (cond b 0 (suc (first_unwritten es))) ≡ Some e → is_unwritten e.1 ≡ true) [
+      | true ↦ λ u here. let same : x ≡ e = cc in subst (λ (y : ℕ × Place). is_unwritten y.1 ≡ true) same u
+      | false ↦ λ u here. there_unwritten es e here
+    ]) refl at
+
+-- the page there is dirty and unwritten
+pub next_dirty : (es : List (ℕ × Place)) (n : ℕ) (page : ℕ) (place : Place) → n ≡ first_unwritten es
+    → Some (page, place) ≡ slice_get es n → lookup (nat_eq page) es ≡ Some place
+    → (content : List ℕ) × (lookup (nat_eq page) es ≡ Some (unwritten content))
+next_dirty es n page place first at found =
+    let is = there_unwritten es (page, place) (ap (slice_get es) (sym first) ∙ sym at) in
+    let u = unwritten_of place.content place.written is in (
+      u.0,
+      found ∙ ap₂ (λ (c : Option (List ℕ)) (w : Bool). let p : Place = record { content = c; written = w } in Some p)
+          u.1 u.2,
+    )
+
+-- ---- places are dropped
+
+none_apart : (page : ℕ) (es : List (ℕ × Place)) → AllByRecursion (λ k. nat_eq page k ≡ false) (keys_of es)
+    → lookup (nat_eq page) es ≡ None
+none_apart page [] apart = refl
+none_apart page (e ∷ es) apart =
+    subst (λ (b : Bool). cond b (Some e.1) (lookup (nat_eq page) es) ≡ None) (sym apart.0) (none_apart page es apart.1)
+
+pub lookup_trimmed : (page : ℕ) (es : List (ℕ × Place)) → IsDistinct nat_eq (keys_of es)
+    → lookup (nat_eq page) (filter (λ e. is_dirty e.1) es) ≡ dirty_in (lookup (nat_eq page) es)
+unfolding IsDistinct
+lookup_trimmed page [] distinct = refl
+lookup_trimmed page (e ∷ es) distinct =
+    let on = lookup_trimmed page es distinct.1 in
+    let rest = filter (λ (x : ℕ × Place). is_dirty x.1) es in
+    (elim (is_dirty e.1) as (λ b. is_dirty e.1 ≡ b → lookup (nat_eq page) (cond b (e ∷ rest) rest)
+    ≡ dirty_in (cond (nat_eq page e.0) (Some e.1) (lookup (nat_eq page) es))) [
+      | true ↦ λ is. elim (nat_eq page e.0) as (λ t. cond t (Some e.1) (lookup (nat_eq page) rest)
+          ≡ dirty_in (cond t (Some e.1) (lookup (nat_eq page) es))) [
+            | true ↦ ap (λ b. cond b (Some e.1) None) (sym is)
+            | false ↦ on
+          ]
+      | false ↦ λ is.
+          (elim (nat_eq page e.0) as (λ t. nat_eq page e.0 ≡ t → lookup (nat_eq page) rest
+          ≡ dirty_in (cond t (Some e.1) (lookup (nat_eq page) es))) [
+            | true ↦ λ here.
+                let none = none_apart page es (subst (λ k. AllByRecursion (λ j. nat_eq k j ≡ false) (keys_of es))
+                (sym (eqb-true page e.0 here)) distinct.0) in
+                on ∙ ap dirty_in none ∙ sym (ap (λ b. cond b (Some e.1) None) is)
+            | false ↦ λ there. on
+          ]) refl
+    ]) refl

@@ -72,6 +72,11 @@ abbrev pub looked : PartData → ℕ → PartData
 looked part page =
     if is_some (dirty_at part page) then part else record part { clean = promoted (nat_eq page) part.clean }
 
+-- it is looked at, and what is held of each page stays as it was
+pub record IsLooked (page : ℕ) (old new : PartData) : Type 0 where
+  pub order : new ≡ looked old page
+  pub contents : (q : ℕ) → content_at new q ≡ content_at old q
+
 -- clean pages after one more: it is the last used, and past so many the one that is longest unused goes
 abbrev pub pushed : ℕ → List ℕ → List (ℕ × List ℕ) → List (ℕ × List ℕ)
 pushed page content clean = put_entries nat_eq (lru_cache clean CLEAN_PAGES) page content
@@ -110,12 +115,20 @@ BecomeClean (e ∷ es) old new =
     (mid : List (ℕ × List ℕ)) × BecomesClean e.0 (written_in e.1) old mid × BecomeClean es mid new
 
 -- its place stays
+abbrev pub settled_in : Place → Place
+settled_in place = if place.written then bare else place
+
 abbrev pub settled_place : ℕ × Place → ℕ × Place
-settled_place e = (e.0, if e.1.written then bare else e.1)
+settled_place e = (e.0, settled_in e.1)
 
 pub record IsSettled (old new : PartData) : Type 0 where
   pub places : new.places ≡ map settled_place old.places
   pub clean : BecomeClean old.places old.clean new.clean
+
+-- a place with a dirty page stays, and any other is dropped
+abbrev pub dirty_in : Option Place → Option Place
+dirty_in None = None
+dirty_in (Some place) = if is_dirty place then Some place else None
 
 abbrev pub trimmed : PartData → PartData
 trimmed part = record part { places = filter (λ e. is_dirty e.1) part.places }

@@ -1,10 +1,13 @@
 // A partition.
 ghost use Rattle.std.specs.Prelude.{◌≡◌, ◌≤◌, ◌<◌, ℕ, Some, None, IsSome, IsTrue, IfOk, IfSome, IfNone, OnOk};
-ghost use Rattle.std.specs.Prelude.{OnErr, option_copied, is_some, length, nat_eq, List};
+ghost use Rattle.std.specs.Prelude.{OnErr, option_copied, is_some, length, slice_get, nat_eq, List};
+ghost use Rattle.std.specs.Borrow.{sem};
+ghost use Rattle.indexmap.specs.IndexMap.{set_value_at};
 ghost use Rattle.ori_bytes.specs.declared.limits.TheConstants.{CLEAN_PAGES};
 ghost use Rattle.ori_part.specs.Parts.{no_pages, place_at, has_place, dirty_at, clean_at, content_at, looked};
-ghost use Rattle.ori_part.specs.Parts.{kept, reserved, installed, marked, unwritten_page, trimmed, is_dirty};
-ghost use Rattle.ori_part.specs.Parts.{first_unwritten};
+ghost use Rattle.ori_part.specs.Parts.{kept, reserved, installed, marked, unwritten_page, trimmed, is_dirty, unwritten};
+ghost use Rattle.ori_part.specs.Parts.{first_unwritten, settled_in, written_in, BecomesClean, IsSettled, dirty_in};
+ghost use Rattle.ori_part.specs.Lending.{LendsPage};
 
 use crate::Place;
 use indexmap::IndexMap;
@@ -60,6 +63,41 @@ impl Part {
         self.places.contains_key(&page)
     }
 
+    /// The content of a dirty page.
+    pub fn dirty(&self, page: u32) -> Option<&Page>
+        ensures { option_copied result ≡ dirty_at self.now page }
+    {
+        self.places.get(&page)?.content.as_ref()
+    }
+
+    // The content of a page, dirty or clean.
+    fn held(&self, page: u32) -> Option<&Page>
+        ensures { option_copied result ≡ content_at self.now page }
+    {
+        match self.dirty(page) {
+            Some(content) => Some(content),
+            None => self.clean.peek(&page),
+        }
+    }
+
+    // Makes a page that is clean, and not dirty, the last used.
+    fn look(&mut self, page: u32)
+        ensures { self.new ≡ looked self.old page }
+    {
+        if self.dirty(page).is_none() {
+            self.clean.promote(&page);
+        }
+    }
+
+    /// The content of a page that the partition holds, dirty or clean. A clean page is the last used after it.
+    pub fn get(&mut self, page: u32) -> Option<&Page>
+        ensures* looked { sem 𝓛 (LendsPage self.entry page) }
+        ensures value { option_copied result ≡ content_at self.old page }
+    {
+        self.look(page);
+        self.held(page)
+    }
+
     /// Makes a page that the partition doesn't hold the first clean one; one more than [`CLEAN_PAGES`] goes. If out of
     /// memory the page comes back, and nothing has changed.
     pub fn keep(&mut self, page: u32, content: Page) -> Option<Page>
@@ -112,7 +150,9 @@ impl Part {
 
     /// The first dirty page that is unwritten, in the order in which the places were made.
     pub fn next_unwritten(&self) -> Option<u32>
-        ensures { result ≡ unwritten_page self.now.places }
+        ensures first { result ≡ unwritten_page self.now.places }
+        ensures dirty { IfSome result (λ page. (content : List ℕ)
+            × (place_at self.now page ≡ Some (unwritten content))) }
     {
         let at = first_from(&self.places, self.first);
         let (page, _) = self.places.get_index(at)?;
@@ -131,10 +171,23 @@ impl Part {
         self.first = first_from(&self.places, self.first);
     }
 
-    /// Drops each place without a dirty page. The others keep their order.
-    pub fn trim(&mut self)
-        ensures { self.new ≡ trimmed self.old }
+    /// Makes each written page a clean one, in the order of the places, or lets it go if out of memory. It is no longer
+    /// dirty, and its place stays. Takes as long as there are places.
+    pub fn settled(&mut self)
+        ensures { IsSettled self.old self.new }
     {
+        for at in 0..self.places.len() {
+            settle_place(&mut self.places, &mut self.clean, at);
+        }
+    }
+
+    /// Drops each place without a dirty page. The others keep their order, and each dirty page its place.
+    pub fn trim(&mut self)
+        ensures places { self.new ≡ trimmed self.old }
+        ensures dirty { (page : ℕ) → place_at self.new page ≡ dirty_in (place_at self.old page) }
+    {
+        // No page has two places.
+        let _count = self.places.len();
         self.first = 0;
         self.places.retain(
             |_page: &u32, place: &mut Place| -> bool
@@ -158,4 +211,21 @@ fn first_from(places: &IndexMap<u32, Place>, from: usize) -> usize
         }
     }
     places.len()
+}
+
+// Makes the page of a place clean, or lets it go if out of memory, where it is written.
+fn settle_place(places: &mut IndexMap<u32, Place>, clean: &mut LruCache<u32, Page>, at: usize)
+    requires within { at < length places.old.entries }
+    requires cap { clean.old.cap ≡ CLEAN_PAGES }
+    ensures places { IfSome (slice_get places.old.entries at)
+        (λ e. places.new.entries ≡ set_value_at places.old.entries at (settled_in e.1)) }
+    ensures clean { IfSome (slice_get places.old.entries at)
+        (λ e. BecomesClean e.0 (written_in e.1) clean.old.entries clean.new.entries) }
+    ensures cap { clean.new.cap ≡ CLEAN_PAGES }
+{
+    let (page, place) = places.pair_mut(at);
+    let page = *page;
+    if let Some(content) = place.settle() {
+        let _ = clean.put(page, content);
+    }
 }

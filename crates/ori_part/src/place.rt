@@ -12,12 +12,24 @@ pub struct Place {
 }
 
 impl Place {
-    ghost use Rattle.ori_part.specs.Parts.{is_unwritten};
+    ghost use Rattle.ori_part.specs.Parts.{is_unwritten, written_in, settled_in};
 
     /// Whether it has a dirty page that isn't written.
     pub fn is_unwritten(&self) -> bool
         ensures { result ≡ is_unwritten self.now }
     {
         self.content.is_some() && !self.written
+    }
+
+    // Gives the content of a written page and is bare after it; any other place stays as it is.
+    pub(crate) fn settle(&mut self) -> Option<Page>
+        ensures content { result ≡ written_in self.old }
+        ensures place { self.new ≡ settled_in self.old }
+    {
+        if !self.written {
+            return None;
+        }
+        self.written = false;
+        self.content.take()
     }
 }

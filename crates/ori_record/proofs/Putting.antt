@@ -1,101 +1,52 @@
--- Pairs that are put one after the other.
-use Rattle.std.proofs.Common.{◌≡◌, ℕ, zero, suc, ◌+◌, ◌<◌, ◌≤◌, Bool, true, false, not, ◌||◌, List, [], ◌∷◌, ◌++◌}
-use Rattle.std.proofs.Common.{length, take, get_or, refl, sym, ap, subst, ◌∙◌, append_assoc, arith}
-use Rattle.std.proofs.lemmas.List.{take_more}
-use Rattle.std.specs.Int.{w32, to_be_bytes}
-use Rattle.ori_spec_data.specs.Value.{Tree, Fields, no_pairs, pair}
-use Rattle.ori_spec_data.specs.Sizes.{text_size, fields_size}
-use Rattle.ori_record.specs.Spelling.{kind_number, IsValue, AreFields}
-use Rattle.ori_value.specs.declared.value.Value.{Value}
-use Rattle.ori_value.specs.View.{tree_of, fields_of}
-use Rattle.ori_record.specs.Kinds.{is_written, has_unwritten, entries_size}
-use Rattle.ori_record.specs.Parts.{AreTexts, BeginsEntry}
-use Rattle.ori_record.proofs.Names.{added, texts_added}
-use Rattle.ori_record.proofs.Entries.{entry_of, fields_added, fields_facts}
-use Rattle.ori_record.proofs.Sofar.{fields_of-added}
+-- What is written one after the other, by what is left of it.
+use Rattle.std.proofs.Common.{◌≡◌, ◌<◌, ◌≤◌, ℕ, zero, suc, ◌+◌, List, [], ◌∷◌, ◌++◌, length, drop, get_or}
+use Rattle.std.proofs.Common.{refl, sym, ap, subst, ◌∙◌, append_assoc, arith}
+use Rattle.std.proofs.lemmas.List.{append-nil, drop_more}
+use Rattle.ori_bytes.specs.declared.rid.Rid.{Rid}
+use Rattle.ori_record.specs.Spelling.{Joins, IsLink, AreLinks}
+use Rattle.ori_record.specs.Writing.{Adds}
 
-abbrev pub Pair : Type 0
-Pair = List ℕ × Value
+-- what comes first of those left
+pub first_of : {X : Type 0} (xs : List X) (i : ℕ) (x : X) → i < length xs → x ≡ get_or xs i x
+    → drop i xs ≡ x ∷ drop (i + 1) xs
+first_of {X} xs i x lt is = drop_more xs i x lt ∙ ap (λ (y : X). y ∷ drop (i + 1) xs) (sym is)
 
-pub fields_more : (ps : List Pair) (i : ℕ) (p : Pair) → i < length ps → p ≡ get_or ps i p
-    → fields_of (take (i + 1) ps) ≡ added (fields_of (take i ps)) p.0 (tree_of p.1)
-fields_more ps i p lt is = rw (take_more ps i p lt, ← is) (fields_of-added (take i ps) p)
+pub none_left : {X : Type 0} (xs : List X) (i : ℕ) → length xs ≤ i → drop i xs ≡ []
+none_left [] zero le = refl
+none_left [] (suc i) le = refl
+none_left (x ∷ xs) zero le = absurd (omega arith)
+none_left (x ∷ xs) (suc i) le = none_left xs i (omega arith)
 
--- ---- sizes
+-- Whatever bytes those that are left may have, the bytes of all come at the end with them.
+abbrev pub Grown : (Left All : List ℕ → Type 0) (old now : List ℕ) → Type 0
+Grown Left All old now = (tail : List ℕ) → Left tail → Adds All old (now ++ tail)
 
-entries_size-added : (fs : Fields) (name : List ℕ) (t : Tree)
-    → entries_size (added fs name t) ≡ entries_size fs + (text_size name + 5)
-entries_size-added no_pairs name t = omega arith
-entries_size-added (pair other u fs) name t = omega (arith, entries_size-added fs name t)
+pub grown_first : (All : List ℕ → Type 0) (old : List ℕ) → Grown All All old old
+grown_first All old tail h = (tail, h, refl)
 
-pub entries_size-more : (ps : List Pair) (i : ℕ) (p : Pair) → i < length ps → p ≡ get_or ps i p
-    → entries_size (fields_of (take (i + 1) ps)) ≡ entries_size (fields_of (take i ps)) + (text_size p.0 + 5)
-entries_size-more ps i p lt is =
-    ap entries_size (fields_more ps i p lt is) ∙ entries_size-added (fields_of (take i ps)) p.0 (tree_of p.1)
+pub grown_more : (One Left Next All : List ℕ → Type 0) (old now new : List ℕ) → Grown Left All old now
+    → Adds One now new
+    → ((b : List ℕ) → Joins One Next b → Left b) → Grown Next All old new
+grown_more One Left Next All old now new g a f tail h =
+    let r = g (a.0 ++ tail) (f (a.0 ++ tail)
+    (record { front = a.0; back = tail; first = a.1; second = h; whole = refl })) in
+    (r.0, r.1, ap (λ (x : List ℕ). x ++ tail) a.2 ∙ append_assoc now a.0 tail ∙ r.2)
 
--- an entry, and those before it, are no longer than all fields
-pub item_fits : (ps : List Pair) (i : ℕ) (p : Pair) → i < length ps → p ≡ get_or ps i p
-    → entries_size (fields_of (take i ps)) + (text_size p.0 + 5) ≤ fields_size (fields_of ps)
-item_fits [] i p lt is = absurd (omega arith)
-item_fits (q ∷ ps) zero p lt is =
-    let same : text_size p.0 ≡ text_size q.0 = ap (λ (x : Pair). text_size x.0) is in omega (arith, same)
-item_fits (q ∷ ps) (suc i) p lt is = omega (arith, item_fits ps i p (omega arith) is)
+pub grown_last : (Left All : List ℕ → Type 0) (old now : List ℕ) → Grown Left All old now → Left [] → Adds All old now
+grown_last Left All old now g h = let r = g [] h in (r.0, r.1, sym (append-nil now) ∙ r.2)
 
-pub taken_size : (ps : List Pair) (i : ℕ) → fields_size (fields_of (take i ps)) ≤ fields_size (fields_of ps)
-taken_size ps zero = omega arith
-taken_size [] (suc i) = omega arith
-taken_size (q ∷ ps) (suc i) = omega (arith, taken_size ps i)
+-- one part after another
+pub both_added : (P Q : List ℕ → Type 0) (old middle new : List ℕ) → Adds P old middle → Adds Q middle new
+    → Adds (Joins P Q) old new
+both_added P Q old middle new a b = (
+  a.0 ++ b.0,
+  record { front = a.0; back = b.0; first = a.1; second = b.1; whole = refl },
+  b.2 ∙ ap (λ (x : List ℕ). x ++ b.0) a.2 ∙ append_assoc old a.0 b.0,
+)
 
-pub entries_within : (fs : Fields) → entries_size fs ≤ fields_size fs
-entries_within no_pairs = omega arith
-entries_within (pair name t fs) = omega (arith, entries_within fs)
-
--- ---- what is written so far
-
-pub record Written (ps : List Pair) (i at : ℕ) (entries values : List ℕ) : Type 0 where
-  pub fields : AreFields at entries values (fields_of (take i ps))
-  pub texts : AreTexts (fields_of (take i ps))
-
-pub written_first : (ps : List Pair) (at : ℕ) → Written ps 0 at [] []
-written_first ps at = record { fields = (refl, refl); texts = tt }
-
--- the next value stands within the bounds of all
-pub place_fits : (ps : List Pair) (i at : ℕ) (entries values : List ℕ) → Written ps i at entries values
-    → at + length values ≤ at + fields_size (fields_of ps)
-place_fits ps i at entries values w =
-    omega (arith, (fields_facts (fields_of (take i ps)) at entries values w.fields).size, taken_size ps i)
-
-pub written_more : (ps : List Pair) (i at : ℕ) (entries values : List ℕ) (p : Pair) (entry bytes : List ℕ)
-    → i < length ps → p ≡ get_or ps i p → Written ps i at entries values
-    → BeginsEntry entry p.0 (at + length values) (kind_number (tree_of p.1)) [] → IsValue bytes (tree_of p.1)
-    → Written ps (i + 1) at (entries ++ entry) (values ++ bytes)
-written_more ps i at entries values p entry bytes lt is w e v =
-    let named = e.named.begins in
-    let place = at + length values in
-    let kind = kind_number (tree_of p.1) in
-    let whole : entry ≡ entry_of named.front place kind
-    = named.whole ∙ ap (λ (x : List ℕ). named.front ++ x) e.points.whole
-    ∙ sym (append_assoc named.front (to_be_bytes w32 place) (kind ∷ [])) in
-    let next = fields_added (fields_of (take i ps)) at entries values named.front bytes p.0 (tree_of p.1) w.fields
-    named.counted v e.points.fits in
-    let fs = fields_more ps i p lt is in
-    record {
-      fields = subst (λ (x : Fields). AreFields at (entries ++ entry) (values ++ bytes) x) (sym fs)
-          (subst (λ (x : List ℕ). AreFields at (entries ++ x) (values ++ bytes)
-          (added (fields_of (take i ps)) p.0 (tree_of p.1))) (sym whole) next);
-      texts = subst (λ (x : Fields). AreTexts x) (sym fs) (texts_added (fields_of (take i ps)) p.0 (tree_of p.1) w.texts
-          e.named.utf8);
-    }
-
--- a value that isn't written
-pub unwritten_at : (ps : List Pair) (i : ℕ) (p : Pair) → i < length ps → p ≡ get_or ps i p
-    → is_written (tree_of p.1) ≡ false → has_unwritten (fields_of ps) ≡ true
-unwritten_at [] i p lt is h = absurd (omega arith)
-unwritten_at (q ∷ ps) zero p lt is h =
-    let this : is_written (tree_of q.1) ≡ false = ap (λ (x : Pair). is_written (tree_of x.1)) (sym is)
-    ∙ h in rw this refl
-unwritten_at (q ∷ ps) (suc i) p lt is h = by (is_written (tree_of q.1)) (unwritten_at ps i p (omega arith) is h)
-  where
-    by : (b : Bool) → has_unwritten (fields_of ps) ≡ true → (not b || has_unwritten (fields_of ps)) ≡ true
-    by true rest = rest
-    by false rest = refl
+pub links_grown : (rids : List Rid) (i : ℕ) (d : Rid) (old now new : List ℕ) → i < length rids
+    → Grown (AreLinks (drop i rids)) (AreLinks rids) old now → Adds (IsLink (get_or rids i d)) now new
+    → Grown (AreLinks (drop (i + 1) rids)) (AreLinks rids) old new
+links_grown rids i d old now new lt g a =
+    grown_more (IsLink (get_or rids i d)) (AreLinks (drop i rids)) (AreLinks (drop (i + 1) rids)) (AreLinks rids) old
+    now new g a (λ b j. subst (λ (x : List Rid). AreLinks x b) (sym (drop_more rids i d lt)) j)

@@ -1,5 +1,7 @@
-pub mod Kinds
-pub mod Seen
-pub mod Parts
-pub mod Laws
 pub mod Spelling
+pub mod Names
+pub mod Laws
+pub mod Reading
+pub mod Seen
+pub mod Writing
+pub mod Writable

@@ -1,14 +1,17 @@
-// Why bytes can't be read as a record.
+// Why bytes can't be read as a record, or a record can't be written.
 ghost use Rattle.std.specs.Prelude.{◌≡◌};
 
 use ori_bytes::NoMemory;
+use std::alloc::{AllocError, AllocFailed};
 
-/// Why bytes can't be read as a record.
-#[derive(Clone, Copy)]
+/// Why bytes can't be read as a record, or a record can't be written.
+#[derive(Clone, Copy, Drop)]
 pub enum RecordFault {
-    /// They spell no record.
+    /// The bytes spell no record. Told by `read` alone.
     NotRecord,
-    /// No memory was to be had.
+    /// Values nest deeper than `MAX_NESTING`. Told by `write` alone.
+    TooDeep,
+    /// Out of memory.
     NoMemory,
 }
 
@@ -18,6 +21,26 @@ impl From<NoMemory> for RecordFault {
     ghost from_gives = { λ _ e. e ≡ RecordFault.NoMemory };
 
     fn from(_: NoMemory) -> Self {
+        RecordFault::NoMemory
+    }
+}
+
+impl From<AllocError> for RecordFault {
+    ghost use Rattle.ori_record.specs.declared.fault.RecordFault.{RecordFault};
+
+    ghost from_gives = { λ _ e. e ≡ RecordFault.NoMemory };
+
+    fn from(_: AllocError) -> Self {
+        RecordFault::NoMemory
+    }
+}
+
+impl<T: Drop> From<AllocFailed<T>> for RecordFault {
+    ghost use Rattle.ori_record.specs.declared.fault.RecordFault.{RecordFault};
+
+    ghost from_gives = { λ _ e. e ≡ RecordFault.NoMemory };
+
+    fn from(_: AllocFailed<T>) -> Self {
         RecordFault::NoMemory
     }
 }

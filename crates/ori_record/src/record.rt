@@ -1,103 +1,105 @@
 // Whole records as bytes.
-ghost use Rattle.std.specs.Prelude.{◌≡◌, ◌≤◌, ◌↔◌, ℕ, List, length, Some, IfOk, IsErrOf, IsNone, IsTrue, MatchOption};
-ghost use Rattle.ori_bytes.specs.declared.limits.TheConstants.{MAX_RECORD_BYTES};
+ghost use Rattle.std.specs.Prelude.{◌≡◌, ◌<◌, Err, IfOk, IsErrOf, List};
 ghost use Rattle.ori_spec_data.specs.Base.{RecordData};
-ghost use Rattle.ori_spec_data.specs.Apply.{HasOwnFields};
-ghost use Rattle.ori_spec_data.specs.Sizes.{record_size};
-ghost use Rattle.ori_record.specs.Spelling.{Spells};
+ghost use Rattle.ori_spec_data.specs.Value.{fields_nesting};
 ghost use Rattle.ori_model.specs.Data.{record_of};
-ghost use Rattle.ori_record.specs.Kinds.{has_unwritten};
-ghost use Rattle.ori_record.specs.Parts.{BeginsRecord, BeginsVersion};
+ghost use Rattle.ori_record.specs.declared.bag_field.BagField.{BagField};
+ghost use Rattle.ori_record.specs.Spelling.{Spells};
+ghost use Rattle.ori_record.specs.Reading.{Gives, body_at, record_at};
+ghost use Rattle.ori_record.specs.Seen.{spelled_data};
+ghost use Rattle.ori_record.specs.Writable.{IsWritable};
 
+use crate::bag_fields::BagFieldList;
 use crate::fault::RecordFault;
-use crate::header::{entries_size, put_fields, read_fields, split_header};
-use crate::texts::{put_text, text_at, text_size};
-use ori_bytes::{Blob, NoMemory, Rid, Text};
+use crate::own::Own;
+use crate::own_values::{own_heads, own_values};
+use crate::put::put_header;
+use crate::reader::Reader;
+use ori_bytes::limits::MAX_NESTING;
+use ori_bytes::{Blob, Rid, Text};
 use ori_model::Stored;
 use ori_value::FieldList;
 use std::alloc::Global;
 
-// Bytes of the version. Pointers count from the byte behind it.
-const VERSION_BYTES: usize = 4;
-
-/// The bytes of a record. `None` exactly where a value is of a kind that isn't written yet.
-#[tactic(auto, using(crate::proofs::Putting::entries_within))]
-pub fn write(alloc: Global, stored: &Stored) -> Result<Option<Blob>, NoMemory>
-    requires own { HasOwnFields stored.now.fields }
-    requires small { record_size stored.now.class stored.now.fields ≤ MAX_RECORD_BYTES }
-    ensures spelled { IfOk result (λ o. MatchOption o
-        (IsTrue (has_unwritten stored.now.fields))
-        (λ bytes. Spells bytes (record_of stored.now)
-        × (length bytes ≡ record_size stored.now.class stored.now.fields))) }
-    ensures none { IfOk result (λ o. IsNone o ↔ IsTrue (has_unwritten stored.now.fields)) }
+// The class, the fields and the bags, after which nothing comes, where so many bytes were left at the place from which
+// pointers count.
+#[tactic(auto, unfolding(crate::specs::Reading::body_at))]
+fn body(
+    alloc: Global,
+    reader: &mut Reader<'_>,
+    from: usize,
+) -> Result<(Text, FieldList, BagFieldList), RecordFault>
+    ensures { Gives (λ x. x) result (body_at from reader.old) }
 {
-    let class = stored.class.as_str();
-    let pairs = stored.fields.as_slice();
-    // The byte 0, the class, the entries and the byte 0 that ends them.
-    let at = 1 + text_size(class) + entries_size(pairs) + 1;
-    let Some(fields) = put_fields(alloc, at, pairs)? else {
-        return Ok(None);
-    };
-    let mut out = Blob::from_slice(alloc, &stored.version.to_be_bytes())?;
-    out.push(0)?;
-    put_text(&mut out, class)?;
-    out.extend_from_slice(fields.entries.as_slice())?;
-    out.push(0)?;
-    out.extend_from_slice(fields.values.as_slice())?;
-    Ok(Some(out))
-}
-
-// The version at the front, and the bytes behind it and a byte 0.
-fn version_at(bytes: &[u8]) -> Option<(u32, &[u8])>
-    ensures { MatchOption result
-        ((version : ℕ) (body : List ℕ) → BeginsVersion bytes.now version body → ⊥)
-        (λ found. BeginsVersion bytes.now found.0 found.1.now) }
-{
-    if bytes.len() < 5 || bytes[VERSION_BYTES] != 0 {
-        return None;
+    let class = reader.text()?;
+    let heads = own_heads(alloc, reader)?;
+    let (pairs, bags) = own_values(alloc, reader, from, heads, MAX_NESTING)?;
+    if !reader.rest().is_empty() {
+        return Err(RecordFault::NotRecord);
     }
-    let version = u32::from_be_bytes([bytes[0], bytes[1], bytes[2], bytes[3]]);
-    Some((version, &bytes[5..]))
-}
-
-// The version, the class, and the header with the values behind it.
-fn record_head(bytes: &[u8]) -> Option<(u32, &str, &[u8])>
-    ensures { MatchOption result
-        ((version : ℕ) (class header : List ℕ) → BeginsRecord bytes.now version class header → ⊥)
-        (λ found. BeginsRecord bytes.now found.0 found.1.now found.2.now) }
-{
-    let (version, body) = version_at(bytes)?;
-    let (class, header) = text_at(body)?;
-    Some((version, class, header))
-}
-
-/// The version of the record that bytes spell. Reads no more than the front, and answers whatever stands there where
-/// they spell none.
-pub fn version_of(bytes: &[u8]) -> Option<u32>
-    ensures { (r : RecordData) → Spells bytes.now r → result ≡ Some r.version }
-{
-    let (version, _) = version_at(bytes)?;
-    Some(version)
-}
-
-/// The record that bytes spell, which stands at this identifier. NotRecord exactly where they spell none.
-pub fn read(alloc: Global, bytes: &[u8], rid: Rid) -> Result<Stored, RecordFault>
-    ensures ok { IfOk result (λ s. (s.rid ≡ rid) × Spells bytes.now (record_of s)) }
-    ensures none { IsErrOf result RecordFault.NotRecord → (r : RecordData) → Spells bytes.now r → ⊥ }
-{
-    let Some((version, class, header)) = record_head(bytes) else {
-        return Err(RecordFault::NotRecord);
-    };
-    let Some((entries, values)) = split_header(header) else {
-        return Err(RecordFault::NotRecord);
-    };
-    let at = bytes.len() - VERSION_BYTES - values.len();
-    let fields = read_fields(alloc, at, entries, values)?;
     let class = Text::from_str(alloc, class)?;
-    Ok(Stored {
+    Ok((
+        class,
+        FieldList::from_vec(pairs),
+        BagFieldList::from_vec(bags),
+    ))
+}
+
+// The record and the bags that all of the bytes spell.
+#[tactic(auto, unfolding(crate::specs::Reading::record_at))]
+fn whole(alloc: Global, bytes: &[u8], rid: Rid) -> Result<(Stored, BagFieldList), RecordFault>
+    ensures spelled { Gives (λ x. spelled_data x.0 x.1) result (record_at bytes.now) }
+    ensures rid { IfOk result (λ x. x.0.rid ≡ rid) }
+{
+    let mut reader = Reader::new(bytes);
+    let version = reader.u32()?;
+    let from = reader.rest().len();
+    let start = reader.octet()?;
+    if start != 0 {
+        return Err(RecordFault::NotRecord);
+    }
+    let (class, fields, bags) = body(alloc, &mut reader, from)?;
+    let stored = Stored {
         rid,
         version,
         class,
-        fields: FieldList::from_vec(fields),
-    })
+        fields,
+    };
+    Ok((stored, bags))
+}
+
+/// The record that bytes spell, which stands at this identifier, and its bags. NotRecord exactly where they spell none.
+pub fn read(alloc: Global, bytes: &[u8], rid: Rid) -> Result<(Stored, BagFieldList), RecordFault>
+    ensures ok { IfOk result (λ x. (x.0.rid ≡ rid) × Spells bytes.now (record_of x.0) x.1) }
+    ensures none { IsErrOf result RecordFault.NotRecord → (r : RecordData) (bags : List BagField)
+        → Spells bytes.now r bags → ⊥ }
+    ensures shallow { result ≡ Err RecordFault.TooDeep → ⊥ }
+{
+    whole(alloc, bytes, rid)
+}
+
+/// The bytes that spell a record with its bags, which are the only ones. TooDeep exactly where its values nest deeper
+/// than `MAX_NESTING`. The fields have names, none of them a bag's, embedded identifiers rise, a tree's size is below
+/// 2^63, and each value's pointer is below 2^32.
+pub fn write(alloc: Global, stored: &Stored, bags: &BagFieldList) -> Result<Blob, RecordFault>
+    requires { IsWritable (record_of stored.now) bags.now }
+    ensures ok { IfOk result (λ b. Spells b (record_of stored.now) bags.now) }
+    ensures deep { IsErrOf result RecordFault.TooDeep → MAX_NESTING < fields_nesting stored.now.fields }
+    ensures record { result ≡ Err RecordFault.NotRecord → ⊥ }
+{
+    let mut out = Blob::new(alloc);
+    out.extend_from_slice(&stored.version.to_be_bytes())?;
+    // Pointers count from the byte 0.
+    let base = out.len();
+    out.push(0)?;
+    let own = Own::new(stored.fields.as_slice(), bags.as_slice());
+    put_header(
+        alloc,
+        &mut out,
+        base,
+        stored.class.as_str(),
+        own,
+        MAX_NESTING,
+    )?;
+    Ok(out)
 }

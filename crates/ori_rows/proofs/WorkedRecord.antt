@@ -2,7 +2,7 @@
 use Rattle.std.specs.Prelude.{◌≡◌, ℕ, zero, suc, ◌+◌, ◌*◌, ◌<◌, ◌≤◌, max, nat_lt, get_or, None, true, List, [], ◌∷◌}
 use Rattle.std.specs.Prelude.{◌++◌, length, codes, refl}
 use Rattle.std.specs.Str.{is_utf8, chars}
-use Rattle.std.proofs.Common.{arith}
+use Rattle.std.proofs.Common.{arith, sym, subst}
 use Rattle.std.proofs.lemmas.Str.{IsUtf8-from_is_utf8}
 use lib.Utf8.{encode}
 use mathlib.Core.Logic.{inr}
@@ -16,7 +16,7 @@ use Rattle.ori_spec_data.specs.Apply.{rid_at, temporary, apply_tx, IsFormed}
 use Rattle.ori_spec_data.specs.Refusing.{refusal}
 use Rattle.ori_spec_data.specs.Soundness.{IsSoundBase}
 use Rattle.ori_spec_data.specs.Records.{record_at}
-use Rattle.ori_record.specs.Spelling.{IsCounted, Spells}
+use Rattle.ori_record.specs.Spelling.{IsCount, IsCounted, Spells, plain}
 use Rattle.ori_log.specs.Log.{FilesData, ImageData, record_bytes, AreImages, IsLog, IsMade, pages_named, pages_of}
 use Rattle.ori_log.specs.Log.{last_image}
 use Rattle.ori_rows.specs.Stage.{head_page, record_page, Opens, IsPageOf}
@@ -38,39 +38,61 @@ ann_bytes = 0 ∷ 0 ∷ 0 ∷ 1 ∷ 0 ∷ 2 ∷ 86 ∷ 8 ∷ 110 ∷ 97 ∷ 109 
 length-ann : length ann_bytes ≡ 22
 length-ann = refl
 
-counted-v : IsCounted (2 ∷ 86 ∷ []) (codes "V")
-counted-v = (2 ∷ [], record { groups = omega arith; shortest = refl; number = refl; range = omega arith }, refl)
+counted : (length_byte n : ℕ) (text : List ℕ) → length text ≡ n → IsCount n (length_byte ∷ [])
+    → IsCounted text (length_byte ∷ text)
+counted length_byte n text long h = record {
+  front = length_byte ∷ [];
+  back = text;
+  first = subst (λ (k : ℕ). IsCount k (length_byte ∷ [])) (sym long) h;
+  second = refl;
+  whole = refl;
+}
 
-counted-name : IsCounted (8 ∷ codes "name") (codes "name")
-counted-name = (8 ∷ [], record { groups = omega arith; shortest = refl; number = refl; range = omega arith }, refl)
+counted-v : IsCounted (codes "V") (2 ∷ 86 ∷ [])
+counted-v =
+    counted 2 1 (codes "V") refl (record { groups = omega arith; shortest = refl; number = refl; range = omega arith })
 
-counted-ann : IsCounted (6 ∷ codes "Ann") (codes "Ann")
-counted-ann = (6 ∷ [], record { groups = omega arith; shortest = refl; number = refl; range = omega arith }, refl)
+counted-name : IsCounted (codes "name") (8 ∷ codes "name")
+counted-name =
+    counted 8 4 (codes "name") refl
+    (record { groups = omega arith; shortest = refl; number = refl; range = omega arith })
 
-spells-ann : Spells ann_bytes ann
+counted-ann : IsCounted (codes "Ann") (6 ∷ codes "Ann")
+counted-ann =
+    counted 6 3 (codes "Ann") refl
+    (record { groups = omega arith; shortest = refl; number = refl; range = omega arith })
+
+spells-ann : Spells ann_bytes ann []
 unfolding is_utf8 chars encode
 spells-ann = (
-  2 ∷ 86 ∷ [],
-  8 ∷ 110 ∷ 97 ∷ 109 ∷ 101 ∷ 0 ∷ 0 ∷ 0 ∷ 14 ∷ 7 ∷ [],
-  6 ∷ codes "Ann",
+  2 ∷ 86 ∷ 8 ∷ 110 ∷ 97 ∷ 109 ∷ 101 ∷ 0 ∷ 0 ∷ 0 ∷ 14 ∷ 7 ∷ 0 ∷ 6 ∷ codes "Ann",
+  plain (codes "name") (str (codes "Ann")) ∷ [],
   record {
     whole = refl;
     version = omega arith;
-    class = counted-v;
-    class_text = IsUtf8-from_is_utf8 (codes "V") refl;
-    fields = (
-      8 ∷ codes "name",
-      6 ∷ codes "Ann",
-      [],
-      [],
-      counted-name,
-      (counted-ann, IsUtf8-from_is_utf8 (codes "Ann") refl),
-      refl,
-      refl,
-      omega arith,
-      (refl, refl),
-    );
-    names = (omega arith, IsUtf8-from_is_utf8 (codes "name") refl, refl);
+    headed = record {
+      front = 2 ∷ 86 ∷ [];
+      entries = 8 ∷ 110 ∷ 97 ∷ 109 ∷ 101 ∷ 0 ∷ 0 ∷ 0 ∷ 14 ∷ 7 ∷ [];
+      values = 6 ∷ codes "Ann";
+      classed = (counted-v, IsUtf8-from_is_utf8 (codes "V") refl);
+      fields = record {
+        name_bytes = 8 ∷ codes "name";
+        value_bytes = 6 ∷ codes "Ann";
+        entries_left = [];
+        values_left = [];
+        named = ((counted-name, IsUtf8-from_is_utf8 (codes "name") refl), omega arith);
+        fits = omega arith;
+        valued = (counted-ann, IsUtf8-from_is_utf8 (codes "Ann") refl);
+        left = (refl, refl);
+        entry = refl;
+        value = refl;
+      };
+      whole = refl;
+    };
+    ordered = (tt, refl, tt);
+    fields_are = refl;
+    bags_are = refl;
+    depth = omega arith;
   },
 )
 

@@ -74,8 +74,9 @@ left_in report halted = record {
 }
 
 -- The volume was opened, and lines were run. Commits have ended where a call on the log has failed since, and only
--- there. An answer tells of a fault only where a call on the volume failed and commits have ended, and that they have
--- only at the count of faults that it names.
+-- there. An answer tells of a fault only where a call on the volume failed and commits have ended. All answers that
+-- tell that commits have ended name one count of faults: it rose above the volume's before, or stands at the end of a
+-- `u64`, and is at most the one after.
 pub record IsRunOver (old new : OutsideData) (status : ℕ) (report : ReportData) : Type 0 where
   pub halted : Option ℕ
   pub halted_since : IsHaltedSince old.faults new.faults old.log_faults new.log_faults halted

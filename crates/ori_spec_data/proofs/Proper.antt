@@ -36,7 +36,7 @@ precedes_put a rid (r ∷ rs) h k =
     by false true p rest = and_from (comes_before a rid) (precedes a (r ∷ rs)) h k
     by false false p rest = and_from (comes_before a r) (precedes a (put_rid rid rs)) p.0 rest
 
-rises_put : (rid : Rid) (rs : List Rid) → rises rs ≡ true → rises (put_rid rid rs) ≡ true
+pub rises_put : (rid : Rid) (rs : List Rid) → rises rs ≡ true → rises (put_rid rid rs) ≡ true
 rises_put rid [] h = refl
 rises_put rid (r ∷ rs) h =
     let p = and_parts (precedes r rs) (rises rs) h in

@@ -1,12 +1,12 @@
 -- What a schema change weighs, which bounds the pages that it changes: by the bytes of the new catalog, and by those of
 -- the entries that a new index gets.
-use Rattle.std.specs.Prelude.{ℕ, ◌+◌, ◌-◌, ◌*◌, ◌/◌, ℤ, pos, Bool, true, false, ◌==◌, if◌then◌else◌, List, [], ◌∷◌}
+use Rattle.std.specs.Prelude.{ℕ, ◌+◌, ◌-◌, ◌*◌, ◌/◌, ℤ, pos, Bool, true, false, if◌then◌else◌, List, [], ◌∷◌}
 use Rattle.std.specs.Prelude.{length, Option, Some, None}
-use Rattle.ori_spec_data.specs.Value.{Tree, Fields, null, boolean, integer, short, long, datetime, str, binary}
-use Rattle.ori_spec_data.specs.Value.{embedded, embedded_list, embedded_map, link, link_list, link_set, link_map, byte}
+use Rattle.ori_spec_data.specs.Value.{Tree, Fields}
 use Rattle.ori_spec_data.specs.Base.{PropertyData, ClassData, IndexData, SchemaData, RecordData, BaseData}
 use Rattle.ori_spec_data.specs.Base.{DefinitionData, new_class, new_property, new_index}
 use Rattle.ori_spec_data.specs.Fields.{field}
+use Rattle.ori_spec_data.specs.Keys.{is_indexable, key_of}
 use Rattle.ori_spec_data.specs.Sizes.{varint_size, count_size, text_size}
 use Rattle.ori_spec_data.specs.Apply.{same_bytes, apply_definition}
 use Rattle.ori_spec_data.specs.Weighing.{begun}
@@ -61,32 +61,9 @@ catalog_size schema = count_size (length schema.classes) + classes_size schema.c
 
 -- ---- the bytes of an index's entries
 
-abbrev pub zeros : List ℕ → ℕ
-zeros [] = 0
-zeros (b ∷ bs) = (if b == 0 then 1 else 0) + zeros bs
-
--- bytes in a key, in which each 0 is two bytes and two end them
-abbrev pub bytes_key_size : List ℕ → ℕ
-bytes_key_size bytes = length bytes + zeros bytes + 2
-
 -- the bytes of a value in a key, where it is of a kind that an index takes
 abbrev pub key_size : Tree → Option ℕ
-key_size null = None
-key_size (boolean b) = Some 1
-key_size (integer z) = Some 8
-key_size (short z) = Some 8
-key_size (long z) = Some 8
-key_size (datetime z) = Some 8
-key_size (str s) = Some (bytes_key_size s)
-key_size (binary s) = Some (bytes_key_size s)
-key_size (embedded class fields) = None
-key_size (embedded_list items) = None
-key_size (embedded_map fields) = None
-key_size (link rid) = Some 10
-key_size (link_list rids) = None
-key_size (link_set rids) = None
-key_size (link_map links) = None
-key_size (byte z) = Some 8
+key_size t = if is_indexable t then Some (length (key_of t)) else None
 
 abbrev pub field_key_size : Option Tree → Option ℕ
 field_key_size None = None

@@ -67,8 +67,7 @@ abbrev pub plan_of : List ChangeData → PlanData
 plan_of cs = record { changes = cs; rows = rids_of (created_of cs); count = length cs }
 
 -- The plan of a statement over a view, where its session's transaction has given out so many temporary identifiers.
--- None of today's
--- statements is refused by what it names.
+-- None of today's statements is refused by what it names.
 abbrev pub plan_by : ViewData → ℕ → StatementData → PlannedData
 plan_by view made s = planned (plan_of (changes_by view.records made s))
 

@@ -91,7 +91,8 @@ rows_of_new base [] = []
 rows_of_new base (rid ∷ rids) = rows_at base.stored rid ++ rows_of_new base rids
 
 -- the reply to what was accepted, over the base that it makes: a statement's new records and its count; or a
--- transaction's temporary identifiers beside those that they became, and the number of its changes
+-- transaction's temporary identifiers beside those that they became, and the number of its changes. The rows of a plan
+-- are its creations, so that the fresh identifiers, one for each creation in order, are those of its rows here.
 abbrev pub reply_on : BaseData → List Rid → PendingData → ReplyData
 reply_on base rids (one plan) = granted (rows_of_new base rids) plan.count
 reply_on base rids (whole tx) = record { rows = []; temps = renamings tx.changes rids; told = Ok (length tx.changes) }

@@ -185,7 +185,7 @@ record Fine (at : ℕ) (line : List ℕ) (lines : List (List ℕ)) : Type 0 wher
   said : List LineData
   more : Reads (at + length line) lines said at_end
 
-true_false : (b : Bool) → IsTrue b → b ≡ false → ⊥
+pub true_false : (b : Bool) → IsTrue b → b ≡ false → ⊥
 true_false true h e = true≢false e
 true_false false h e = absurd (cc (h))
 

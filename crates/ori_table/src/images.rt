@@ -20,6 +20,7 @@ use ori_bytes::{Blob, NoMemory};
 use ori_log::{ImageList, PageImage};
 use ori_model::Stored;
 use ori_page::Page;
+use ori_record::{BagFieldList, spelled_record, writable_record};
 use std::alloc::Global;
 
 // What a page of this owner and kind begins with.
@@ -52,14 +53,17 @@ pub fn record_page(alloc: Global, spelling: &[u8]) -> Result<Page, NoMemory>
     Page::filled(alloc, front.as_slice())
 }
 
-// The page of a record. Memory is wanting for values of the kinds that no statement writes yet.
+// The page of a record, whose values nest no deeper than may be.
 fn stored_page(alloc: Global, stored: &Stored) -> Result<Page, NoMemory>
     requires { IsWritableRow (Some (record_of stored.now)) }
     ensures { IfOk result (λ page. IsPageOf page (Some (record_of stored.now))) }
 {
-    match ori_record::write(alloc, stored)? {
-        Some(bytes) => record_page(alloc, bytes.as_slice()),
-        None => Err(NoMemory),
+    // What has fields of its own can be written, and its spelling is as long as its size says.
+    writable_record();
+    spelled_record();
+    match ori_record::write(alloc, stored, &BagFieldList::new(alloc)) {
+        Ok(bytes) => record_page(alloc, bytes.as_slice()),
+        Err(_) => Err(NoMemory),
     }
 }
 

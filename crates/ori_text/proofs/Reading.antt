@@ -1,8 +1,9 @@
 -- Reading lines one after the other.
-use Rattle.std.proofs.Common.{◌≡◌, ℕ, ◌+◌, Bool, true, false, List, [], ◌∷◌, ◌++◌, length, sym, ap, inl, inr, arith}
+use Rattle.std.proofs.Common.{ℕ, ◌+◌, List, [], ◌∷◌, ◌++◌, length, sym, ap, inl, inr, arith}
 use Rattle.std.proofs.Common.{subst, IsTrue}
 use Rattle.std.proofs.lemmas.List.{length-append}
 use Rattle.ori_spec_texts.specs.Line.{LineData, StopData, at_end, is_too_long, Reads}
+use Rattle.ori_spec_texts.proofs.OneReading.{true_false}
 use Rattle.ori_text.specs.Lines.{joined}
 
 -- lines that were read to their end, and then others
@@ -34,10 +35,6 @@ Reads-then at (line ∷ lines) others said more stop p q =
         ]
       ]
     ]
-
-true_false : (b : Bool) → IsTrue b → b ≡ false → ⊥
-true_false true h e = absurd cc
-true_false false h e = absurd cc
 
 -- a last line that is too long isn't read to its end
 pub no_long : (at : ℕ) (front : List (List ℕ)) (last : List ℕ) (said : List LineData)

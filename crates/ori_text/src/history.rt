@@ -1,7 +1,8 @@
 // Histories as they are printed.
 ghost use Rattle.std.specs.Prelude.{◌≡◌, ◌+◌, ◌++◌, ◌∷◌, [], codes, decimal, IfOk, string_bytes, map};
 ghost use Rattle.ori_spec_texts.specs.Json.{rid_text};
-ghost use Rattle.ori_spec_texts.specs.Reply.{change_text, rids_behind, changes_text, entry_text, entries_text, history_text};
+ghost use Rattle.ori_spec_texts.specs.Reply.{change_text, rids_behind, changes_text, entry_text, entries_text};
+ghost use Rattle.ori_spec_texts.specs.Reply.{history_text};
 ghost use Rattle.ori_model.specs.Data.{change_of, entry_of, entries_of};
 
 use crate::json::rid_string;

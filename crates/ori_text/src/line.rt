@@ -1,14 +1,17 @@
 // Lines of input: what each says, and reading them from a source.
-ghost use Rattle.std.specs.Prelude.{◌≡◌, ◌≢◌, ◌+◌, ◌-◌, ◌<◌, ◌≤◌, ◌^◌, ◌++◌, [], List, ℕ, length, take, drop, position, ◌==◌, codes, decimal, vec_len, IfOk, OnErr, MatchOption, false};
+ghost use Rattle.std.specs.Prelude.{◌≡◌, ◌≢◌, ◌+◌, ◌-◌, ◌<◌, ◌≤◌, ◌^◌, ◌++◌, [], List, ℕ, length, take, drop, position};
+ghost use Rattle.std.specs.Prelude.{◌==◌, codes, decimal, vec_len, IfOk, OnErr, MatchOption, false};
 ghost use Rattle.ori_volume.specs.Causes.{HasCause};
 ghost use Rattle.ori_volume.specs.Streams.{Took};
 ghost use Rattle.ori_bytes.specs.declared.rid.Rid.{Rid};
 ghost use Rattle.ori_spec_data.specs.Base.{DirData};
-ghost use Rattle.ori_spec_texts.specs.Line.{is_try, body_of, without_last, is_too_long, is_skipped, dir_text, bag, IsSession, IsStepText};
+ghost use Rattle.ori_spec_texts.specs.Line.{is_try, body_of, without_last, is_too_long, is_skipped, dir_text, bag};
+ghost use Rattle.ori_spec_texts.specs.Line.{IsSession, IsStepText};
 ghost use Rattle.ori_model.specs.Data.{dir_of};
 ghost use Rattle.ori_text.specs.Lines.{Reading};
 ghost use Rattle.ori_text.specs.LineReading.{IsAtEnd, IsNext};
-ghost use Rattle.ori_text.specs.LineSteps.{IsJudged, IsFront, HasFront, HasNoFront, IsTaking, IsRead, IsStep, MayGoOn, IsPrompt, IsPromptStep};
+ghost use Rattle.ori_text.specs.LineSteps.{IsJudged, IsFront, HasFront, HasNoFront, IsTaking, IsRead, IsStep, MayGoOn};
+ghost use Rattle.ori_text.specs.LineSteps.{IsPrompt, IsPromptStep};
 ghost use Rattle.ori_text.specs.LineForms.{IsSaidBy, IsStepRead, IsBareStep, AsksTries};
 
 use crate::pieces::{after, is_word, read_link, split_at_space};

@@ -1,5 +1,6 @@
 // Replies as they are printed.
-ghost use Rattle.std.specs.Prelude.{◌≡◌, ◌++◌, ◌∷◌, [], IfOk, IsTrue, false, string_bytes, map, flat_map, codes, decimal};
+ghost use Rattle.std.specs.Prelude.{◌≡◌, ◌++◌, ◌∷◌, [], IfOk, IsTrue, false, string_bytes, map, flat_map, codes};
+ghost use Rattle.std.specs.Prelude.{decimal};
 ghost use Rattle.ori_spec_texts.specs.Reply.{reply_text, answer_text, to_step, told_text};
 ghost use Rattle.ori_spec_texts.specs.Reply as spec;
 ghost use Rattle.ori_model.specs.Replies.{row_of, reply_of, refusal_of, told_of};

@@ -1,5 +1,5 @@
 -- Hexadecimal digits, two at a time.
-use Rattle.std.proofs.Common.{◌≡◌, ℕ, zero, suc, ◌+◌, ◌*◌, ◌/◌, ◌%◌, ◌<◌, ◌≤◌, List, [], ◌∷◌, ◌++◌, length, get_or}
+use Rattle.std.proofs.Common.{◌≡◌, ℕ, suc, ◌+◌, ◌*◌, ◌%◌, ◌<◌, ◌≤◌, List, [], ◌∷◌, ◌++◌, length, get_or}
 use Rattle.std.proofs.Common.{drop}
 use Rattle.std.proofs.Common.{Option, Some, None, refl, sym, ap, ◌∙◌, arith, drop-cons, append_assoc, append-nil}
 use Rattle.std.proofs.lemmas.List.{drop_all}
@@ -88,3 +88,6 @@ pub all_joined : (text done : List ℕ) (at : ℕ) (whole : Option (List ℕ)) �
     → joined done (hex_bytes (drop (2 * at) text)) ≡ whole → Some done ≡ whole
 all_joined text done at whole le h =
     sym (rw (drop_all (2 * at) text le) (ap (λ (l : List ℕ). Some l) (append-nil done))) ∙ h
+
+-- what a text of digits leads to, a digit or two at a time
+pub ruleset hex_steps = (odd_is_none, high_is_none, low_is_none, pair_joined, all_joined)

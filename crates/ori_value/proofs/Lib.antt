@@ -7,6 +7,6 @@ mod OrderSame
 mod KeyLaws
 mod KeySteps
 mod Comparisons
-mod SetSteps
+mod LinkSets
 mod HexSteps
 mod LinkSteps

@@ -1,5 +1,5 @@
 -- Links made into values, a step at a time.
-use Rattle.std.proofs.Common.{◌≡◌, ℕ, ◌+◌, ◌<◌, List, [], ◌∷◌, ◌++◌, length, take, get_or, refl, ap, Bool, true}
+use Rattle.std.proofs.Common.{◌≡◌, ℕ, ◌+◌, ◌<◌, List, [], ◌∷◌, ◌++◌, length, take, get_or, refl, Bool}
 use Rattle.std.proofs.Common.{false, ◌==◌}
 use Rattle.std.proofs.lemmas.List.{take_more}
 use Rattle.ori_bytes.specs.declared.rid.Rid.{Rid}

@@ -5,4 +5,3 @@ pub mod TreeCode
 pub mod View
 pub mod Comparing
 pub mod Kinds
-pub mod SetPlaces

@@ -26,6 +26,7 @@ pub use kind::Kind;
 pub use laws::{key_law, order_law};
 pub use lists::{KeyList, TextList};
 pub use rid_fields::{RidFieldList, link_names_rise};
+pub use rid_sets::rising_set;
 pub use total_order::order;
 pub use value::{Document, Value};
 pub use values::ValueList;

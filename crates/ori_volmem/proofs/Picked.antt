@@ -1,13 +1,12 @@
 -- A picked image is one that a crash may leave.
-use Rattle.std.proofs.Common.{◌≡◌, ◌≤◌, ◌<◌, ◌+◌, ◌-◌, ◌^◌, ◌/◌, ◌%◌, ℕ, leb, Bool, true, false, not, ◌&&◌, ◌==◌}
+use Rattle.std.proofs.Common.{◌≡◌, ◌≤◌, ◌<◌, ◌+◌, ◌-◌, ◌^◌, ◌/◌, ◌%◌, ℕ, Bool, true, false, not, ◌&&◌, ◌==◌}
 use Rattle.std.proofs.Common.{if◌then◌else◌, List, length, slice_index, arith, refl, sym, ◌∙◌, ap, subst, mod-lt}
 use Rattle.std.proofs.Common.{length-set, slice_set, ⊎_elim, true≢false, get_or-set_other, get_or-set_same}
-use Rattle.std.proofs.lemmas.Bool.Decides.{leb_tells}
 use Rattle.std.proofs.lemmas.Bool.{cases_eq}
-use Rattle.std.proofs.lemmas.List.{get_or_past}
 use Rattle.ori_volume.specs.declared.file.FileNo.{FileNo}
 use Rattle.ori_volume.specs.declared.file.FileNo.TheVariants.{Master, LogA, LogB, Pages}
-use Rattle.ori_volume.specs.Disk.{of_file, with_file, FileData, Disk, Files, AreBytes, IsFileImage, IsImage}
+use Rattle.ori_volume.specs.Disk.{of_file, with_file, FileData, Disk, Files, IsFileImage, IsImage}
+use Rattle.ori_volume.proofs.Lasting.{byte_or_none}
 use Rattle.ori_volmem.specs.Memory.{next_state, drawn, one_more}
 use Rattle.ori_volmem.specs.Crashes.{seed_for, crash_length, loose_byte, crash_byte, IsFileCrash, IsCrash, IsCrashWith}
 
@@ -71,13 +70,6 @@ firm_byte pick seed file k firm =
     ∙ ap (λ (test : Bool). if test then loose_byte pick seed k else slice_index file.bytes k)
     (and_false (not (pick == 0)))
 
-index_byte : (xs : List ℕ) (k : ℕ) → AreBytes xs → slice_index xs k < 2 ^ 8
-index_byte xs k bytes =
-    ⊎_elim (λ (past : (leb (length xs) k ≡ true) × (length xs ≤ k)). subst (λ (n : ℕ). n < 2 ^ 8)
-    (sym (get_or_past xs k 0 past.1)) (omega arith))
-    (λ (within : (leb (length xs) k ≡ false) × (k < length xs)). bytes k within.1)
-    (leb_tells (length xs) k)
-
 image_allowed : (pick seed : ℕ) (file : FileData) (image : List ℕ) → IsFileImage file file.bytes
     → IsFileCrash pick seed file image → IsFileImage file image
 image_allowed pick seed file image sound crash =
@@ -88,7 +80,7 @@ image_allowed pick seed file image sound crash =
       no_longer = omega (arith, crash.long, between.1);
       firm = λ k within firm. crash.each k within ∙ firm_byte pick seed file k firm;
       are_bytes = λ k within. subst (λ (n : ℕ). n < 2 ^ 8) (sym (crash.each k within))
-          (byte_is_byte pick seed file k (index_byte file.bytes k sound.are_bytes));
+          (byte_is_byte pick seed file k (byte_or_none file.bytes k sound.are_bytes));
     }
 
 pub crash_allowed : (pick : ℕ) (disk : Disk) (image : Files) → ((file : FileNo)

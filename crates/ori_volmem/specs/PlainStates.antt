@@ -1,4 +1,6 @@
 -- What a plain volume in memory is.
+use Rattle.std.specs.Prelude.{Option, Some}
+use Rattle.ori_volume.specs.Disk.{Files}
 use Rattle.ori_volmem.specs.declared.plain_volume.PlainVolume.{PlainVolume}
 use Rattle.ori_volmem.specs.Plain.{PlainData}
 
@@ -15,3 +17,7 @@ plain_data volume = record {
   log_faults = volume.log_faults;
   wants = volume.wants;
 }
+
+-- its files, as the calls of a volume tell them
+abbrev pub files_in : PlainVolume → Option Files
+files_in volume = Some (plain_data volume).files

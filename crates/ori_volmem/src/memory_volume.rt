@@ -222,31 +222,28 @@ impl Volume for MemVolume {
     ghost use Rattle.ori_volume.specs.Causes.{HasCause};
     ghost use Rattle.ori_volume.specs.Disk.{of_file, files_of};
     ghost use Rattle.ori_volume.specs.Effects.{read_bytes, written, cut_to, synced};
-    ghost use Rattle.ori_volume.specs.Story.{moment_of, Tells, Reads, Writes, Cuts, Syncs, FilesWrite, FilesCut};
+    ghost use Rattle.ori_volume.specs.OnlyRead.{IsOnlyRead};
+    ghost use Rattle.ori_volume.specs.Story.{moment_of, Tells, Writes, Cuts, Syncs, FilesWrite, FilesCut};
     ghost use Rattle.ori_volume.specs.Story.{TimePasses, CountsLog};
     ghost use Rattle.ori_volmem.specs.Memory.{VolumeData, is_planned, Calls, Looks, Answers};
     ghost use Rattle.ori_volume.specs.Effects.{Tears, MaybeCuts};
-    ghost use Rattle.ori_volmem.specs.VolumeStates.{volume_data};
+    ghost use Rattle.ori_volmem.specs.VolumeStates.{volume_data, files_in, story_in, moment_in, log_faults_in};
     ghost use Rattle.ori_volmem.specs.VolumeLaws.{told_are_bytes, told_is_one, told_counts_past, told_reads_as_image};
 
-    ghost files = { λ v. Some (files_of (volume_data v).story.now.disk) };
+    ghost files = { files_in };
 
-    ghost story = { λ v. Some (volume_data v).story };
+    ghost story = { story_in };
 
-    ghost moment = { λ v. moment_of (volume_data v).story };
+    ghost moment = { moment_in };
 
     ghost faults = { λ v. v.faults };
 
-    ghost log_faults = { λ v. v.log_faults };
+    ghost log_faults = { log_faults_in };
 
     fn len(&mut self, file: FileNo) -> Result<u64, Failed>
         ensures value { IfOk result (λ n. IfSome (Some (files_of (volume_data self.old).story.now.disk))
             (λ fs. n ≡ length (of_file fs file))) }
-        ensures files { Some (files_of (volume_data self.new).story.now.disk)
-            ≡ Some (files_of (volume_data self.old).story.now.disk) }
-        ensures story { Tells Reads (Some (volume_data self.old).story) (Some (volume_data self.new).story) }
-        ensures time { moment_of (volume_data self.new).story ≡ moment_of (volume_data self.old).story }
-        ensures log_faults { self.new.log_faults ≡ self.old.log_faults }
+        ensures same { IsOnlyRead files_in story_in moment_in log_faults_in self.old self.new }
         ensures cause { HasCause self.old.faults self.new.faults result }
         ensures fails { is_err result ≡ is_planned (volume_data self.old) }
         ensures looks { Looks (volume_data self.old) (volume_data self.new) result }
@@ -264,11 +261,7 @@ impl Volume for MemVolume {
     fn read_at(&mut self, file: FileNo, at: u64, into: &mut [u8]) -> Result<(), Failed>
         ensures value { OnOk result (IfSome (Some (files_of (volume_data self.old).story.now.disk))
             (λ fs. into.new ≡ read_bytes (of_file fs file) at (length into.old))) }
-        ensures files { Some (files_of (volume_data self.new).story.now.disk)
-            ≡ Some (files_of (volume_data self.old).story.now.disk) }
-        ensures story { Tells Reads (Some (volume_data self.old).story) (Some (volume_data self.new).story) }
-        ensures time { moment_of (volume_data self.new).story ≡ moment_of (volume_data self.old).story }
-        ensures log_faults { self.new.log_faults ≡ self.old.log_faults }
+        ensures same { IsOnlyRead files_in story_in moment_in log_faults_in self.old self.new }
         ensures cause { HasCause self.old.faults self.new.faults result }
         ensures fails { is_err result ≡ is_planned (volume_data self.old) }
         ensures looks { Looks (volume_data self.old) (volume_data self.new) result }

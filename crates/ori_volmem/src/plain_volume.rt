@@ -147,13 +147,15 @@ impl PlainVolume {
 impl Volume for PlainVolume {
     ghost use Rattle.ori_volume.specs.Causes.{HasCause};
     ghost use Rattle.ori_volume.specs.Disk.{Files};
-    ghost use Rattle.ori_volume.specs.Story.{Story, Tells, Reads, Writes, Cuts, Syncs, FilesWrite, FilesCut};
+    ghost use Rattle.ori_volume.specs.OnlyRead.{IsOnlyRead};
+    ghost use Rattle.ori_volume.specs.Story.{Story, Tells, Writes, Cuts, Syncs, FilesWrite, FilesCut};
+    ghost use Rattle.ori_volmem.specs.PlainStates.{files_in};
     ghost use Rattle.ori_volume.specs.Story.{TimePasses, CountsLog};
     ghost use Rattle.ori_volmem.specs.Plain.{CutsPlain, WritesPlain};
     ghost use Rattle.ori_volmem.specs.PlainLaws.{plain_are_bytes, plain_tells_one, plain_counts_past};
     ghost use Rattle.ori_volmem.specs.PlainLaws.{plain_reads_as_image};
 
-    ghost files = { λ v. Some (plain_data v).files };
+    ghost files = { files_in };
 
     ghost story = { λ v. None };
 
@@ -167,10 +169,7 @@ impl Volume for PlainVolume {
     fn len(&mut self, file: FileNo) -> Result<u64, Failed>
         ensures value { IfOk result (λ n. IfSome (Some (plain_data self.old).files) (λ fs. n
             ≡ length (of_file fs file))) }
-        ensures files { Some (plain_data self.new).files ≡ Some (plain_data self.old).files }
-        ensures story { Tells Reads None None }
-        ensures time { self.new.moment ≡ self.old.moment }
-        ensures log_faults { self.new.log_faults ≡ self.old.log_faults }
+        ensures same { IsOnlyRead files_in (λ _. None) (λ v. v.moment) (λ v. v.log_faults) self.old self.new }
         ensures cause { HasCause self.old.faults self.new.faults result }
         ensures never { IsOk result × (plain_data self.new ≡ plain_data self.old) }
     {
@@ -181,10 +180,7 @@ impl Volume for PlainVolume {
     fn read_at(&mut self, file: FileNo, at: u64, into: &mut [u8]) -> Result<(), Failed>
         ensures value { OnOk result (IfSome (Some (plain_data self.old).files)
             (λ fs. into.new ≡ read_bytes (of_file fs file) at (length into.old))) }
-        ensures files { Some (plain_data self.new).files ≡ Some (plain_data self.old).files }
-        ensures story { Tells Reads None None }
-        ensures time { self.new.moment ≡ self.old.moment }
-        ensures log_faults { self.new.log_faults ≡ self.old.log_faults }
+        ensures same { IsOnlyRead files_in (λ _. None) (λ v. v.moment) (λ v. v.log_faults) self.old self.new }
         ensures cause { HasCause self.old.faults self.new.faults result }
         ensures never { IsOk result × (plain_data self.new ≡ plain_data self.old) }
     {

@@ -52,7 +52,7 @@ touched_not_before len at count k before = grind (arith, nat_tests)
 touched_not_after : (len at count k : ℕ) → at + count ≤ k → is_touched len at count k ≡ false
 touched_not_after len at count k after = grind (arith, nat_tests)
 
-byte_or_none : (xs : List ℕ) (k : ℕ) → AreBytes xs → slice_index xs k < 2 ^ 8
+pub byte_or_none : (xs : List ℕ) (k : ℕ) → AreBytes xs → slice_index xs k < 2 ^ 8
 byte_or_none xs k bytes =
     ⊎_elim (λ (past : (nat_le (length xs) k ≡ true) × (length xs ≤ k)). subst (λ (n : ℕ). n < 2 ^ 8)
     (sym (get_or_past xs k 0 past.1)) (omega arith))

@@ -4,3 +4,4 @@ pub mod Torn
 pub mod Lasting
 pub mod RunSteps
 pub mod Known
+pub mod OnlyRead

@@ -4,7 +4,9 @@ ghost use Rattle.ori_volume.specs.Causes.{HasCause};
 ghost use Rattle.ori_volume.specs.declared.file.FileNo.{FileNo};
 ghost use Rattle.ori_volume.specs.Disk.{Files, of_file, files_of, AreBytes, IsImage};
 ghost use Rattle.ori_volume.specs.Effects.{read_bytes};
-ghost use Rattle.ori_volume.specs.Story.{Story, moment_of, Tells, Reads, Writes, Cuts, Syncs, FilesWrite, FilesCut, TimePasses, CountsLog, IsTold};
+ghost use Rattle.ori_volume.specs.OnlyRead.{IsOnlyRead};
+ghost use Rattle.ori_volume.specs.Story.{Story, moment_of, Tells, Writes, Cuts, Syncs, FilesWrite, FilesCut};
+ghost use Rattle.ori_volume.specs.Story.{TimePasses, CountsLog, IsTold};
 
 use crate::{Failed, FileNo};
 use ori_bytes::limits::MAX_FILE_BYTES;
@@ -33,10 +35,7 @@ pub trait Volume: Drop {
     /// The length of a file in bytes. `Failed` changes nothing but `faults`.
     fn len(&mut self, file: FileNo) -> Result<u64, Failed>
         ensures value { IfOk result (λ n. IfSome (files self.old) (λ fs. n ≡ length (of_file fs file))) }
-        ensures files { files self.new ≡ files self.old }
-        ensures story { Tells Reads (story self.old) (story self.new) }
-        ensures time { moment self.new ≡ moment self.old }
-        ensures log_faults { log_faults self.new ≡ log_faults self.old }
+        ensures same { IsOnlyRead files story moment log_faults self.old self.new }
         ensures cause { HasCause (faults self.old) (faults self.new) result };
 
     /// Fills a slice with the bytes of a file from `at` on, with zeros past its end. `Failed` changes nothing but
@@ -44,10 +43,7 @@ pub trait Volume: Drop {
     fn read_at(&mut self, file: FileNo, at: u64, into: &mut [u8]) -> Result<(), Failed>
         ensures value { OnOk result (IfSome (files self.old)
             (λ fs. into.new ≡ read_bytes (of_file fs file) at (length into.old))) }
-        ensures files { files self.new ≡ files self.old }
-        ensures story { Tells Reads (story self.old) (story self.new) }
-        ensures time { moment self.new ≡ moment self.old }
-        ensures log_faults { log_faults self.new ≡ log_faults self.old }
+        ensures same { IsOnlyRead files story moment log_faults self.old self.new }
         ensures cause { HasCause (faults self.old) (faults self.new) result };
 
     /// Writes bytes at a place of a file, and zeros into the gap where the file ended before it. Range and gap are

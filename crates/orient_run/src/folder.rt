@@ -21,6 +21,32 @@ fn path_of(alloc: Global, folder: &str, file: FileNo) -> Result<String, AllocErr
     format!(in alloc; "{folder}/{name}")
 }
 
+// Opens a file of a folder, where it is there.
+fn open_file(rt: &HostRuntime, folder: &str, file: FileNo) -> io::Result<DiskFile> {
+    DiskFile::open(rt, path_of(rt.alloc(), folder, file)?.as_str())
+}
+
+// Opens and locks the folder's `master`, where it is there.
+fn open_master(rt: &HostRuntime, folder: &str) -> io::Result<DiskFile> {
+    let master = open_file(rt, folder, FileNo::Master)?;
+    master.lock()?;
+    Ok(master)
+}
+
+// Whether a file of a folder is there.
+fn exists(rt: &HostRuntime, folder: &str, file: FileNo) -> io::Result<bool> {
+    fs::exists(rt, path_of(rt.alloc(), folder, file)?.as_str())
+}
+
+// Fails with `WouldBlock` where another program has made the folder's `master` since it was found missing. Whoever
+// makes the files makes `master` first: while it is missing the others aren't of a database in the making.
+fn see_alone(rt: &HostRuntime, folder: &str, master: &DiskFile) -> io::Result<()> {
+    if master.is_missing() && exists(rt, folder, FileNo::Master)? {
+        return Err(io::Error::from(ErrorKind::WouldBlock));
+    }
+    Ok(())
+}
+
 // How far the names of the four files are on the disk.
 #[derive(Clone, Copy, PartialEq, Eq)]
 enum Names {
@@ -54,17 +80,11 @@ impl Folder {
         let alloc = rt.alloc();
         // By the dot nothing but a folder is opened: a pipe would wait for its other end.
         let handle = File::open(rt, format!(in alloc; "{folder}/.")?.as_str())?;
-        let master_path = path_of(alloc, folder, FileNo::Master)?;
-        let master = DiskFile::open(rt, master_path.as_str())?;
-        master.lock()?;
-        let log_a = DiskFile::open(rt, path_of(alloc, folder, FileNo::LogA)?.as_str())?;
-        let log_b = DiskFile::open(rt, path_of(alloc, folder, FileNo::LogB)?.as_str())?;
-        let pages = DiskFile::open(rt, path_of(alloc, folder, FileNo::Pages)?.as_str())?;
-        // Whoever makes the files makes `master` first: while it is missing the others aren't of a database in the
-        // making.
-        if master.is_missing() && fs::exists(rt, master_path.as_str())? {
-            return Err(io::Error::from(ErrorKind::WouldBlock));
-        }
+        let master = open_master(rt, folder)?;
+        let log_a = open_file(rt, folder, FileNo::LogA)?;
+        let log_b = open_file(rt, folder, FileNo::LogB)?;
+        let pages = open_file(rt, folder, FileNo::Pages)?;
+        see_alone(rt, folder, &master)?;
         Ok(Folder {
             rt: *rt,
             path: format!(in alloc; "{folder}")?,

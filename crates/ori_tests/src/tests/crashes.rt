@@ -60,7 +60,8 @@ fn a_gate_that_may_be_open_decides(rt: HostRuntime) -> Result<(), Fail> {
     Ok(())
 }
 
-// Whether an image that three INSERTs leave which stop behind so many calls has what was acknowledged, or one more in doubt.
+// Whether an image that three INSERTs leave which stop behind so many calls has what was acknowledged, or one more in
+// doubt.
 fn leaves_a_prefix(alloc: Global, calls: u64, pick: u64) -> Result<bool, NoMemory> {
     let (came, volume) = inserts(alloc, 3, calls)?;
     if has(alloc, volume.crash(pick)?, came.entries)? {
@@ -94,16 +95,19 @@ const NOTHING_OF_IT: &[u8] =
     b"1 ROW {\"@class\":\"V\",\"@rid\":\"#1:0\",\"@version\":1,\"n\":0}\n1 OK 1\n1 OK 0\n";
 
 const ALL_OF_IT: &[u8] =
-    b"1 ROW {\"@class\":\"V\",\"@rid\":\"#1:0\",\"@version\":2,\"n\":1}\n1 OK 1\n1 ROW {\"@class\":\"V\",\"@rid\":\"#1:1\",\"@version\":1,\"m\":2}\n1 OK 1\n";
+    b"1 ROW {\"@class\":\"V\",\"@rid\":\"#1:0\",\"@version\":2,\"n\":1}\n1 OK 1\n\
+1 ROW {\"@class\":\"V\",\"@rid\":\"#1:1\",\"@version\":1,\"m\":2}\n1 OK 1\n";
 
-// Whether an image opens to the records from before the transaction, or to those after it; where it was acknowledged, to these.
+// Whether an image opens to the records from before the transaction, or to those after it; where it was acknowledged,
+// to these.
 fn is_whole(alloc: Global, image: Image, acknowledged: bool) -> Result<bool, NoMemory> {
     let (came, _) = over(alloc, MemVolume::of_image(image), BOTH)?;
     let found = came.printed.as_slice();
     Ok(found == ALL_OF_IT || !acknowledged && found == NOTHING_OF_IT)
 }
 
-// The number of entries where the transaction is stopped behind so many calls, and whether an image that this leaves is whole.
+// The number of entries where the transaction is stopped behind so many calls, and whether an image that this leaves
+// is whole.
 fn stopped_at(alloc: Global, calls: u64, pick: u64) -> Result<(u64, bool), NoMemory> {
     let mut volume = MemVolume::empty(alloc);
     volume.stop_after(calls);

@@ -13,10 +13,10 @@ use ori_bytes::{NoMemory, NumberList, Rid, RidList, Text};
 use ori_decide::{apply, fresh, overlay, refusal, replay};
 use ori_model::{
     BagNameList, Base, Change, ChangeList, Class, ClassList, Entry, EntryList, IndexDefList,
-    PropertyList, Refusal, Schema, StoredList, Tx,
+    PropertyList, Refusal, Schema, Stored, StoredList, Tx,
 };
 use ori_text::step_refusal_text;
-use ori_value::{FieldList, Value};
+use ori_value::{FieldList, Value, ValueList};
 use std::alloc::Global;
 use std::test::Fail;
 
@@ -62,12 +62,14 @@ fn initial(alloc: Global) -> Result<Base, NoMemory>
     })
 }
 
-// A new record that links to itself.
+// A new record with a list that links to the record.
 fn creation(alloc: Global, class: &str) -> Result<Tx, NoMemory>
     ensures { IfOk result (λ t. IsFormed (tx_of t)) }
 {
+    let mut items = ValueList::new(alloc);
+    items.push(Value::Link(TEMP))?;
     let mut fields = FieldList::new(alloc);
-    fields.set(Text::from_str(alloc, "l")?, Value::Link(TEMP))?;
+    fields.set(Text::from_str(alloc, "l")?, Value::EmbeddedList(items))?;
     let mut changes = ChangeList::new(alloc);
     changes.push(Change::Create {
         temp: TEMP,
@@ -103,17 +105,24 @@ fn accepted(alloc: Global, base: &Base, tx: Tx) -> Result<Option<Entry>, NoMemor
     Ok(Some(entry))
 }
 
-// Of the one record the identifier, the version and the link that it holds.
+// Of the one record the identifier, the version and the link in its list.
 type Only = Option<(Rid, u32, Rid)>;
+
+fn listed(stored: &Stored) -> Option<Rid> {
+    let Some(Value::EmbeddedList(items)) = stored.fields.get("l") else {
+        return None;
+    };
+    match items.as_slice() {
+        [Value::Link(rid)] => Some(*rid),
+        _ => None,
+    }
+}
 
 fn only(base: &Base) -> Only {
     let [stored] = base.stored.as_slice() else {
         return None;
     };
-    match stored.fields.get("l") {
-        Some(Value::Link(rid)) => Some((stored.rid, stored.version, *rid)),
-        _ => None,
-    }
+    Some((stored.rid, stored.version, listed(stored)?))
 }
 
 fn applied(alloc: Global, base: &Base, entry: &Entry) -> Result<Only, NoMemory>

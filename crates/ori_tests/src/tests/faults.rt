@@ -70,7 +70,8 @@ fn other_files_are_no_database(rt: HostRuntime) -> Result<(), Fail> {
 const HALTING: &[u8] =
     b"1 INSERT INTO V SET a = 'b'\n1 INSERT INTO V SET a = 'b'\n1 SELECT FROM #1:0\n";
 
-// What is printed where this call behind the opening's fails, and the status, the entries, the marks and the doubtful ones.
+// What is printed where this call behind the opening's fails, and the status, the entries, the marks and the doubtful
+// ones.
 fn halted(alloc: Global, call: u64) -> Result<(Blob, (u8, u64, usize, bool)), NoMemory> {
     let mut volume = MemVolume::empty(alloc);
     volume.fail(numbers(alloc, &[OPENING_CALLS.saturating_add(call)])?);

@@ -3,6 +3,7 @@ use super::runs::OPENING_CALLS;
 use super::shared::numbers;
 use ori_bytes::{NoMemory, Text};
 use ori_engine::Engine;
+use ori_model::Reply;
 use ori_session::Session;
 use ori_text::reply_text;
 use ori_volmem::MemVolume;
@@ -28,11 +29,21 @@ fn new_desk(alloc: Global, volume: MemVolume) -> Option<Desk> {
     })
 }
 
+// What a session answers to a statement.
+fn answered(
+    alloc: Global,
+    session: &mut Session,
+    engine: &mut Engine<MemVolume>,
+    text: &str,
+) -> Reply {
+    session.exec(alloc, engine, text)
+}
+
 fn said(alloc: Global, desk: &mut Desk, by: u8, text: &str) -> Result<Text, NoMemory> {
     let reply = if by == 1 {
-        desk.one.exec(alloc, &mut desk.engine, text)
+        answered(alloc, &mut desk.one, &mut desk.engine, text)
     } else {
-        desk.two.exec(alloc, &mut desk.engine, text)
+        answered(alloc, &mut desk.two, &mut desk.engine, text)
     };
     reply_text(alloc, by, &reply, true)
 }
@@ -54,7 +65,8 @@ fn first_wrong(
     Ok(None)
 }
 
-// What is decided carries the front that it met, and where it was accepted one more, its own; a COMMIT carries that one alone.
+// What is decided carries the front that it met, and where it was accepted one more, its own; a COMMIT carries that
+// one alone.
 #[test]
 fn commits_carry_their_fronts(rt: HostRuntime) -> Result<(), Fail> {
     let alloc = rt.alloc();

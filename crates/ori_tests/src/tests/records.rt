@@ -1,7 +1,7 @@
-// Records by their bytes, worked out by hand.
-use ori_bytes::{NoMemory, Rid};
+// Records by their bytes: worked out by hand, or made by `bench/records.py`, which shares nothing with the store.
+use ori_bytes::{Blob, NoMemory, Rid};
 use ori_model::Row;
-use ori_record::read;
+use ori_record::{read, spelled_writable, write};
 use ori_text::row_json;
 use std::alloc::Global;
 use std::test::Fail;
@@ -11,41 +11,152 @@ const RID: Rid = Rid {
     position: 1,
 };
 
-// The version, the class and the fields that are read from bytes.
+// What is read from bytes: the version, the class, the fields and the number of bags.
 fn read_as(alloc: Global, bytes: &[u8]) -> Result<String, NoMemory> {
-    let Ok(stored) = read(alloc, bytes, RID) else {
+    let Ok((stored, bags)) = read(alloc, bytes, RID) else {
         return Ok(String::from_str(alloc, "no record")?);
     };
-    let (version, class) = (stored.version, stored.class);
+    let (version, class, count) = (stored.version, stored.class, bags.as_slice().len());
     let row = row_json(
         alloc,
         &Row {
             columns: stored.fields,
         },
     )?;
-    Ok(format!(in alloc; "{version} {} {}", class.as_str(), row.as_str())?)
+    Ok(format!(in alloc; "{version} {} {} {count}", class.as_str(), row.as_str())?)
+}
+
+// Whether writing what bytes spell gives the bytes again.
+fn come_back(alloc: Global, bytes: &[u8]) -> bool {
+    // What was read can be written.
+    spelled_writable();
+    let Ok((stored, bags)) = read(alloc, bytes, RID) else {
+        return false;
+    };
+    let Ok(again) = write(alloc, &stored, &bags) else {
+        return false;
+    };
+    again.as_slice() == bytes
+}
+
+// A record of class Doc whose field `a` is a list in a list, and so on, so many deep.
+fn deep(alloc: Global, levels: u32) -> Result<Blob, NoMemory> {
+    let mut bytes = Blob::from_slice(alloc, b"\0\0\0\x01\0\x06Doc\x02a\0\0\0\x0d\x0a\0")?;
+    for _ in 1..levels {
+        bytes.extend_from_slice(b"\x02\x0a")?;
+    }
+    bytes.push(0)?;
+    Ok(bytes)
 }
 
 #[test]
 fn records_are_read(rt: HostRuntime) -> Result<(), Fail> {
-    let cases: [(&[u8], &str); 5] = [
+    let cases: [(&[u8], &str); 7] = [
         (
             b"\0\0\0\x01\0\x02V\x08name\0\0\0\x0e\x07\0\x06Ann",
-            "1 V {\"name\":\"Ann\"}",
+            "1 V {\"name\":\"Ann\"} 0",
         ),
         (
-            b"\0\0\0\x01\0\x06Doc\x02a\0\0\0\x14\x01\x02b\0\0\0\x15\x0d\0\x0a\x06\x02",
-            "1 Doc {\"a\":5,\"b\":\"#3:1\"}",
+            b"\0\0\0\x01\0\x06Doc\x02a\0\0\0\x14\x01\x02b\0\0\0\0\0\0\x0a",
+            "1 Doc {\"a\":5,\"b\":null} 0",
+        ),
+        (
+            b"\0\0\0\x01\0\x06Doc\x02l\0\0\0\x0d\x0d\0\x06\x02",
+            "1 Doc {\"l\":\"#3:1\"} 0",
         ),
         (
             b"\0\0\x01\x02\0\x02V\x02n\0\0\0\x0b\x03\0\xfe\xff\xff\xff\xff\xff\xff\xff\xff\x01",
-            "258 V {\"n\":9223372036854775807}",
+            "258 V {\"n\":9223372036854775807} 0",
         ),
-        (b"\0\0\0\x01\0\x06Doc\0", "1 Doc {}"),
+        (
+            b"\0\0\0\x07\0\x02V\x08in_E\0\0\0\x19\x16\x0aout_E\0\0\0\x1f\x16\0\0\x04\x04\0\x04\0\x01\0\0\0\x09R",
+            "7 V {} 2",
+        ),
+        (b"\0\0\0\x01\0\x06Doc\0", "1 Doc {} 0"),
         (b"\0\0\0\x01\0\x06Doc\0\0", "no record"),
     ];
     for (bytes, want) in cases {
         assert_eq!(rt; read_as(rt.alloc(), bytes)?.as_str(), want);
+    }
+    Ok(())
+}
+
+#[test]
+fn records_come_back(rt: HostRuntime) -> Result<(), Fail> {
+    // Three rows worked out by hand, and twelve of `bench/records.py`.
+    let rows: [&[u8]; 15] = [
+        // worked out by hand
+        b"\0\0\0\x01\0\x06Doc\x02a\0\0\0\x14\x01\x02b\0\0\0\0\0\0\x0a",
+        // a link
+        b"\0\0\0\x01\0\x06Doc\x02l\0\0\0\x0d\x0d\0\x06\x02",
+        // bags of both forms, one identifier twice
+        b"\0\0\0\x07\0\x02V\x08in_E\0\0\0\x19\x16\x0aout_E\0\0\0\x1f\x16\0\0\x04\x04\0\x04\0\x01\0\0\0\x09R",
+        b"\xdfqB\xdc\0\0\x08in_E\0\0\0\x0d\x16\0\0\x04\x01\xff\xff\xff\xff\xff\xff\xff\xff\xff\x01\xfe\xff\x03\x03",
+        b"\xed\xb1\xbd\xc5\0\x06Doc\x16out_gr\xc3\xb6\xc3\x9fe\0\0\0\x17\x16\0\0\x06\x02\x02\x04\0\x04\0",
+        b"\xff?R\xb2\0\x02V\x08in_E\0\0\0\x19\x16\x0aout_E\0\0\0\x1b\x16\0\0\0\0\x04\x01\x02\x02\x02",
+        b"SM\xc0\x83\0\x02V\x08in_E\0\0\0\x18\x16\x08name\0\0\0\x1e\x0f\0\x01\xd5\xb4\xc0\xcdR\0",
+        b"\xdcw\x99%\0\x02V\x02a\0\0\0\0\0\x06in_\0\0\0\"\x16\x10in_Knows\0\0\0$\x16\0\0\0\0\0",
+        b"g\x92\xde7\0\x02V\x08in_E\0\0\0\x0e\x16\0\0\x04\x01\xd8\x04\x02\xfe\xff\xff\xff\xff\xff\xff\xff\xff\x01",
+        b"\x83\xc5\xcf|\0\x06Doc\x16out_gr\xc3\xb6\xc3\x9fe\0\0\0\x17\x16\0\0\0",
+        b"\xaa\xcf6\x13\0\x02V\x06in_\0\0\0\x17\x16\x08in_E\0\0\0\x1d\x16\0\x01<\xae\xa9\xbc\0\x01\x995\x0d\x9d\0",
+        b"\xf8X\x81\xe9\0\x06Doc\x10in_Knows\0\0\0\x14\x16\0\0\x02\xfe\xff\x03\0",
+        b"=\x89\xee\xc6\0\0\x02B\0\0\0\x1c\x01\x08name\0\0\0\x1d\x0d\x04zz\0\0\0\x1f\x01\0\x01\x01\x02\x01",
+        b"g\x856\xc5\0\0\x04in\0\0\0\0\0\x08name\0\0\0\x15\x01\0\xff\xff\xff\xff\x0f",
+        b"\xf4\xa56\x1a\0\0\x06out\0\0\0\x1d\x07\x16out_gr\xc3\xb6\xc3\x9fe\0\0\0!\x16\0\x06Ann\x01w7z\xc8R",
+    ];
+    for bytes in rows {
+        assert!(rt; come_back(rt.alloc(), bytes));
+    }
+    Ok(())
+}
+
+#[test]
+fn depths_are_read(rt: HostRuntime) -> Result<(), Fail> {
+    for (levels, is_read) in [(1, true), (64, true), (65, false), (300, false)] {
+        let bytes = deep(rt.alloc(), levels)?;
+        assert_eq!(rt; come_back(rt.alloc(), bytes.as_slice()), is_read);
+    }
+    Ok(())
+}
+
+#[test]
+fn others_are_no_records(rt: HostRuntime) -> Result<(), Fail> {
+    let rows: [&[u8]; 16] = [
+        // the byte that ends the header is 1
+        b"\0\0\0\x01\0\x06Doc\x02a\0\0\0\x14\x01\x02b\0\0\0\0\x01\0\x0a",
+        // a byte more
+        b"\0\0\0\x01\0\x06Doc\x02a\0\0\0\x14\x01\x02b\0\0\0\0\0\0\x0a\0",
+        // a byte less
+        b"\0\0\0\x01\0\x06Doc\x02a\0\0\0\x14\x01\x02b\0\0\0\0\0\0",
+        // another number than 0 after the version
+        b"\0\0\0\x01\x01\x06Doc\x02a\0\0\0\x14\x01\x02b\0\0\0\0\0\0\x0a",
+        // a number in two groups where one serves
+        b"\0\0\0\x01\0\x06Doc\x02a\0\0\0\x14\x01\x02b\0\0\0\0\0\0\x8a\0",
+        // names fall
+        b"\0\0\0\x01\0\x06Doc\x02b\0\0\0\0\0\x02a\0\0\0\x14\x01\0\x0a",
+        // one name twice
+        b"\0\0\0\x01\0\x06Doc\x02a\0\0\0\0\0\x02a\0\0\0\x14\x01\0\x0a",
+        // a pointer one too large
+        b"\0\0\0\x01\0\x06Doc\x02a\0\0\0\x15\x01\x02b\0\0\0\0\0\0\x0a",
+        // a null with a pointer
+        b"\0\0\0\x01\0\x06Doc\x02a\0\0\0\x14\x01\x02b\0\0\0\x01\0\0\x0a",
+        // a name of no bytes
+        b"\0\0\0\x01\0\x06Doc\0\0\0\0\x0c\x01\0\x0a",
+        // an INTEGER over 32 bits
+        b"\0\0\0\x01\0\x06Doc\x02a\0\0\0\x0d\x01\0\x80\x80\x80\x80\x80@",
+        // a set whose links do not rise
+        b"\0\0\0\x01\0\x06Doc\x02a\0\0\0\x0d\x0f\0\x04\x02\0\x02\0",
+        // a bag whose links fall
+        b"\0\0\0\x01\0\x02V\x08in_E\0\0\0\x0e\x16\0\0\x04\x04\x06\x04\0",
+        // a bag's name on a number
+        b"\0\0\0\x01\0\x02V\x08in_E\0\0\0\x0e\x01\0\x0a",
+        // another name on a bag
+        b"\0\0\0\x01\0\x02V\x02E\0\0\0\x0b\x16\0\0\0",
+        // a bag of a third form
+        b"\0\0\0\x01\0\x02V\x0aout_E\0\0\0\x0f\x16\0\x02\0\0\0\x09R",
+    ];
+    for bytes in rows {
+        assert_eq!(rt; read_as(rt.alloc(), bytes)?.as_str(), "no record");
     }
     Ok(())
 }

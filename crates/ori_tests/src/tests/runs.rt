@@ -26,6 +26,16 @@ pub const OPENING_CALLS: u64 = 15;
 
 pub const COMMIT_CALLS: u64 = 4;
 
+// Runs what a source gives.
+fn ran(
+    alloc: Global,
+    volume: MemVolume,
+    source: &mut MemSource,
+    sink: &mut MemSink,
+) -> Outcome<MemVolume> {
+    run_script(alloc, volume, source, sink)
+}
+
 // Runs a script over a volume, with these calls of the source and the sink failing.
 pub fn run(
     alloc: Global,
@@ -43,7 +53,7 @@ pub fn run(
         status,
         volume,
         report,
-    } = run_script(alloc, volume, &mut source, &mut sink);
+    } = ran(alloc, volume, &mut source, &mut sink);
     let result = RunResult {
         status,
         printed: sink.taken().copy()?,

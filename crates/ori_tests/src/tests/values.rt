@@ -1,6 +1,7 @@
 // Each kind of value copied, and printed.
-use super::shared::{FIRST, TEMP, rids, text};
-use ori_bytes::{Blob, NoMemory, RidList, Text};
+use super::samples::{Item, Sample, made};
+use super::shared::{FIRST, TEMP, text};
+use ori_bytes::{NoMemory, Text};
 use ori_model::Row;
 use ori_text::row_json;
 use ori_value::{Document, FieldList, RidFieldList, Value, ValueList, link_names_rise};
@@ -20,32 +21,41 @@ fn shows(alloc: Global, value: &Value, want: &str) -> Result<bool, NoMemory> {
     Ok(row.as_str().strip_prefix("{\"v\":") == Some(want))
 }
 
-#[test]
-fn scalars(rt: HostRuntime) -> Result<(), Fail> {
-    let cases = [
-        (Value::Null, "null}"),
-        (Value::Boolean(true), "true}"),
-        (Value::Integer(-2147483648), "-2147483648}"),
-        (Value::Short(-32768), "-32768}"),
-        (Value::Long(-9223372036854775808), "-9223372036854775808}"),
-        (Value::Datetime(1577836800000), "1577836800000}"),
-        (Value::Byte(-128), "-128}"),
-        (Value::Link(FIRST), "\"#1:0\"}"),
-    ];
-    for (value, want) in &cases {
-        assert!(rt; shows(rt.alloc(), value, want)?, "{want}");
+// The first of these values that is printed otherwise.
+fn misprint(alloc: Global, cases: &[(Sample, &'static str)]) -> Result<Option<usize>, NoMemory> {
+    for (i, (sample, want)) in cases.iter().enumerate() {
+        if !shows(alloc, &made(alloc, *sample)?, want)? {
+            return Ok(Some(i));
+        }
     }
-    Ok(())
+    Ok(None)
 }
 
-#[derive(Clone, Copy)]
-enum Sample {
-    Text,
-    Bytes,
-    Links,
-    NoLinks,
-    NamedLinks,
-    Nested,
+const PRINTED: &[(Sample, &str)] = &[
+    (Sample::One(Item::Null), "null}"),
+    (Sample::One(Item::Boolean(true)), "true}"),
+    (Sample::One(Item::Integer(-2147483648)), "-2147483648}"),
+    (Sample::One(Item::Short(-32768)), "-32768}"),
+    (
+        Sample::One(Item::Long(-9223372036854775808)),
+        "-9223372036854775808}",
+    ),
+    (Sample::One(Item::Datetime(1577836800000)), "1577836800000}"),
+    (Sample::One(Item::Byte(-128)), "-128}"),
+    (Sample::One(Item::Link(1, 0)), "\"#1:0\"}"),
+    (
+        Sample::One(Item::Str("ä \"\\\n\u{1f}")),
+        "\"ä \\\"\\\\\\n\\u001f\"}",
+    ),
+    (Sample::One(Item::Binary(&[0, 171, 255])), "\"00abff\"}"),
+    (Sample::Links(&[FIRST, TEMP]), "[\"#1:0\",\"#-1:-2\"]}"),
+    (Sample::Set(&[]), "[]}"),
+];
+
+#[test]
+fn values_are_printed(rt: HostRuntime) -> Result<(), Fail> {
+    assert_eq!(rt; misprint(rt.alloc(), PRINTED)?, None);
+    Ok(())
 }
 
 fn named_links(alloc: Global) -> Result<Value, NoMemory> {
@@ -84,34 +94,13 @@ fn nested(alloc: Global) -> Result<Value, NoMemory> {
     Ok(Value::EmbeddedMap(map))
 }
 
-fn made(alloc: Global, sample: Sample) -> Result<Value, NoMemory> {
-    match sample {
-        Sample::Text => Ok(Value::Str(text(alloc, "ä \"\\\n\u{1f}")?)),
-        Sample::Bytes => Ok(Value::Binary(Blob::from_slice(alloc, &[0, 171, 255])?)),
-        Sample::Links => Ok(Value::LinkList(rids(alloc, &[FIRST, TEMP])?)),
-        Sample::NoLinks => Ok(Value::LinkSet(RidList::new(alloc))),
-        Sample::NamedLinks => named_links(alloc),
-        Sample::Nested => nested(alloc),
-    }
-}
-
 #[test]
-fn texts_links_and_nested_values(rt: HostRuntime) -> Result<(), Fail> {
+fn nested_values_are_printed(rt: HostRuntime) -> Result<(), Fail> {
     let alloc = rt.alloc();
-    let cases = [
-        (Sample::Text, "\"ä \\\"\\\\\\n\\u001f\"}"),
-        (Sample::Bytes, "\"00abff\"}"),
-        (Sample::Links, "[\"#1:0\",\"#-1:-2\"]}"),
-        (Sample::NoLinks, "[]}"),
-        (Sample::NamedLinks, "{\"x\":\"#1:0\",\"y\":\"#-1:-2\"}}"),
-        (
-            Sample::Nested,
-            "{\"p\":[{},{\"!\":null,\"@class\":\"Doc\",\"z\":1}]}}",
-        ),
-    ];
-    for (kind, want) in cases {
-        assert!(rt; shows(alloc, &made(alloc, kind)?, want)?, "{want}");
-    }
+    let links = "{\"x\":\"#1:0\",\"y\":\"#-1:-2\"}}";
+    assert!(rt; shows(alloc, &named_links(alloc)?, links)?);
+    let values = "{\"p\":[{},{\"!\":null,\"@class\":\"Doc\",\"z\":1}]}}";
+    assert!(rt; shows(alloc, &nested(alloc)?, values)?);
     Ok(())
 }
 

@@ -5,13 +5,14 @@ use Rattle.ori_rows.specs.Stage.{IsDatabase}
 use Rattle.ori_log.specs.Files.{files_data}
 use Rattle.ori_log.specs.Forms.{BreaksFirst}
 use Rattle.ori_volume.proofs.Known.{some_map, tells_map, tells_then, tells_both}
+use Rattle.ori_volume.proofs.OnlyRead.{no_read}
 use Rattle.ori_model.specs.declared.record.Stored.{Stored}
 use Rattle.ori_table.specs.Kept.{rows_of}
 use Rattle.ori_engine.specs.declared.fault.StartFault.TheVariants.{NotADatabase}
 use Rattle.ori_engine.specs.Openings.{IsStartedKept}
 use Rattle.ori_engine.specs.Reading.{IsOpened}
 use Rattle.ori_engine.proofs.Found.{found_started, is_database, no_database}
-use Rattle.ori_engine.proofs.Starting.{start_fails, no_reads, starts, told_pages, told_kept, pages_told, found_in}
+use Rattle.ori_engine.proofs.Starting.{start_fails, starts, told_pages, told_kept, pages_told, found_in}
 use Rattle.ori_engine.proofs.Starting.{broken_form}
 use Rattle.ori_engine.proofs.opening.open_kept.Goals as goal
 
@@ -23,13 +24,13 @@ returns-in-Err-clause-not_a_database g c = λ is.
 
 pub returns-in-Err-clause-crash : goal.returns-in-Err-clause-crash
 returns-in-Err-clause-crash g c = tells_map _ _ _ _ (λ old new told attaches. start_fails (Err c.start_fault.result)
-    (Err c.in-Err.fault) old new new refl attaches (no_reads new)) c.in-Err.ensures.crash
+    (Err c.in-Err.fault) old new new refl attaches (no_read new)) c.in-Err.ensures.crash
 
 pub returns-in_err-pages-clause-crash : goal.returns-in_err-pages-clause-crash
 returns-in_err-pages-clause-crash g c = tells_then _ _ _ _ _ _
     (λ old mid new attaches reads. start_fails c.from_residual.result _ old mid new c.from_residual.ensures.0 attaches
     reads)
-    c.in-Ok.ensures.crash c.in_err-pages.ensures.story
+    c.in-Ok.ensures.crash c.in_err-pages.ensures.same.story
 
 pub returns-in_err-table-clause-not_a_database : goal.returns-in_err-table-clause-not_a_database
 returns-in_err-table-clause-not_a_database g c = λ is.
@@ -46,7 +47,7 @@ returns-in_err-table-clause-refused g c = λ is.
     let given = err_from_is_err_and c.from_residual-in_err-table.result c.from_residual-in_err-table.ensures.1 in
     let told : given.0 ≡ NotADatabase = cc (is, given.1) in
     let fault : c.in_err-table.field-0.0 ≡ NotADatabase = sym given.2 ∙ told in
-    c.in_ok-pages.ensures.files ∙ told_kept c.in-Ok.attached.0 c.in-Ok.attached.1 c.in_ok-pages.pages.items _ _
+    c.in_ok-pages.ensures.same.files ∙ told_kept c.in-Ok.attached.0 c.in-Ok.attached.1 c.in_ok-pages.pages.items _ _
     (c.in_err-table.ensures.none (ap Err fault))
     c.in-Ok.ensures.value c.in-Ok.ensures.files c.in_ok-pages.ensures.value
 
@@ -54,7 +55,7 @@ pub returns-in_err-table-clause-crash : goal.returns-in_err-table-clause-crash
 returns-in_err-table-clause-crash g c = tells_then _ _ _ _ _ _
     (λ old mid new attaches reads. start_fails c.from_residual-in_err-table.result _ old mid new
     c.from_residual-in_err-table.ensures.0 attaches reads)
-    c.in-Ok.ensures.crash c.in_ok-pages.ensures.story
+    c.in-Ok.ensures.crash c.in_ok-pages.ensures.same.story
 
 pub returns-clause-found : goal.returns-clause-found
 returns-clause-found g c =
@@ -87,4 +88,4 @@ returns-clause-crash g c =
     (pages_told c.in-Ok.attached.1 c.in_ok-pages.pages.items _ _
     (g.met.V.Volume.tells_one c.attach.new.volume mid told_mid).files_now c.in_ok-pages.ensures.value)
     c.begin.ensures.log c.begin.ensures.fresh c.begin.ensures.few opened)
-    c.in-Ok.ensures.crash c.in_ok-pages.ensures.story
+    c.in-Ok.ensures.crash c.in_ok-pages.ensures.same.story

@@ -1,12 +1,13 @@
-use Rattle.std.proofs.Common.{◌≡◌, ◌≤◌, ◌∙◌, ◌++◌, ◌∷◌, [], length, arith, rules}
-use Rattle.ori_engine.proofs.HomePages.{reads_then, homes_step, homes_end}
+use Rattle.std.proofs.Common.{◌≡◌, ◌≤◌, ◌++◌, ◌∷◌, [], length, arith, rules}
+use Rattle.ori_volume.proofs.OnlyRead.{read_then}
+use Rattle.ori_engine.proofs.HomePages.{homes_step, homes_end}
 use Rattle.ori_engine.proofs.opening.read_homes.Goals as goal
 
-pub returns-in_err-home-clause-story : goal.returns-in_err-home-clause-story
-returns-in_err-home-clause-story g c = reads_then _ _ _ c.loop-page.invariant.story c.in_err-home.ensures.story
+pub returns-in_err-home-clause-same : goal.returns-in_err-home-clause-same
+returns-in_err-home-clause-same g c = read_then _ _ _ c.loop-page.invariant.same c.in_err-home.ensures.same
 
-pub returns-in_err-push-clause-story : goal.returns-in_err-push-clause-story
-returns-in_err-push-clause-story g c = reads_then _ _ _ c.loop-page.invariant.story c.in_ok-home.ensures.story
+pub returns-in_err-push-clause-same : goal.returns-in_err-push-clause-same
+returns-in_err-push-clause-same g c = read_then _ _ _ c.loop-page.invariant.same c.in_ok-home.ensures.same
 
 pub loop-page-preserved : goal.loop-page-preserved
 loop-page-preserved g c =
@@ -17,12 +18,10 @@ loop-page-preserved g c =
       value = homes_step (g.V.Volume.files c.args.volume.now)
           (g.V.Volume.files c.loop-page.volume) c.args.pages.now.items c.loop-page.pages.items c.push.new.self.items
           c.in_ok-home.home c.loop-page.page
-          c.loop-page.invariant.files within grown c.loop-page.invariant.value c.in_ok-home.ensures.value;
+          c.loop-page.invariant.same.files within grown c.loop-page.invariant.value c.in_ok-home.ensures.value;
       bound = omega (arith, c.loop-page.invariant.bound, c.loop-page-test.true);
-      files = c.in_ok-home.ensures.files ∙ c.loop-page.invariant.files;
-      story = reads_then _ _ _ c.loop-page.invariant.story c.in_ok-home.ensures.story;
+      same = read_then _ _ _ c.loop-page.invariant.same c.in_ok-home.ensures.same;
       faults = omega (arith, c.in_ok-home.ensures.faults.later, c.loop-page.invariant.faults);
-      log_faults = c.in_ok-home.ensures.log_faults ∙ c.loop-page.invariant.log_faults;
     }
 
 pub returns-clause-value : goal.returns-clause-value

@@ -4,19 +4,18 @@ use Rattle.std.proofs.lemmas.Iterator.Consumers.{YieldsList-end}
 use Rattle.std.proofs.lemmas.Iterator.Adapters.{YieldsList-from_vec}
 use Rattle.ori_log.specs.declared.image.PageImage.{PageImage}
 use Rattle.ori_log.specs.Images.{image_data}
-use Rattle.ori_engine.proofs.HomePages.{reads_then, images_step, found_told}
+use Rattle.ori_volume.proofs.OnlyRead.{read_then}
+use Rattle.ori_engine.proofs.HomePages.{images_step, found_told}
 use Rattle.ori_engine.proofs.opening.read_pages.Goals as goal
 
 pub loop-image-preserved : goal.loop-image-preserved
 loop-image-preserved g c = record {
   value = images_step (g.V.Volume.files c.args.volume.now)
       (g.V.Volume.files c.loop-image.volume) c.loop-image.pages.items c.add_image.new.pages.items c.loop-image.yielded
-      c.in-Some.image c.loop-image.invariant.files
+      c.in-Some.image c.loop-image.invariant.same.files
       c.loop-image.invariant.value c.in_ok-add_image.ensures.value;
-  files = c.in_ok-add_image.ensures.files ∙ c.loop-image.invariant.files;
-  story = reads_then _ _ _ c.loop-image.invariant.story c.in_ok-add_image.ensures.story;
+  same = read_then _ _ _ c.loop-image.invariant.same c.in_ok-add_image.ensures.same;
   faults = omega (arith, c.in_ok-add_image.ensures.faults.later, c.loop-image.invariant.faults);
-  log_faults = c.in_ok-add_image.ensures.log_faults ∙ c.loop-image.invariant.log_faults;
 }
 
 pub returns-clause-value : goal.returns-clause-value
@@ -32,5 +31,5 @@ returns-clause-value g c =
     found_told (g.V.Volume.files c.args.volume.now)
     (g.V.Volume.files c.loop-image.volume) c.args.images c.loop-image.yielded c.loop-image.pages.items
     c.read_homes.new.pages.items c.in_ok-length.length c.pages_at_home.result
-    c.loop-image.invariant.files are c.pages_at_home.ensures.value c.in_ok-length.ensures.value
+    c.loop-image.invariant.same.files are c.pages_at_home.ensures.value c.in_ok-length.ensures.value
     c.loop-image.invariant.value c.in_ok-read_homes.ensures.value

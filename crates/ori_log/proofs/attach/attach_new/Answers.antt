@@ -37,7 +37,7 @@ returns-clause-crash g c =
 
 pub returns-clause-stands : goal.returns-clause-stands
 returns-clause-stands g c =
-    new_stands c.at.result _ _ c.at.ensures.file c.at.ensures.place c.at.ensures.length
+    new_stands c.at.result _ _ c.at.ensures.master c.at.ensures.file c.at.ensures.place c.at.ensures.length
     (some_then _ (λ fs. Measures c.args.sizes.now fs) (λ fs. IsNew fs)
     (λ fs measures. c.long_for_new.ensures.fits c.in_default.is fs measures
     (nil_from_length _ (omega (arith, measures.master, c.requires.none)))) c.requires.measured)

@@ -1,8 +1,6 @@
-use Rattle.ori_record.proofs.Wholes.{one_spelled, one_read}
+use Rattle.ori_record.proofs.Records.{one_record}
+use Rattle.ori_record.proofs.Wholes.{one_spelling}
 use Rattle.ori_record.proofs.laws.one_spelling.Goals as goal
 
-pub returns-clause-spelling : goal.returns-clause-spelling
-returns-clause-spelling c = one_spelled
-
-pub returns-clause-reading : goal.returns-clause-reading
-returns-clause-reading c = one_read
+pub returns : goal.returns
+returns c = record { spelling = one_spelling; reading = one_record }

@@ -1,65 +1,63 @@
-use Rattle.std.proofs.Common.{◌≡◌, ◌+◌, ◌<◌, ◌^◌, ℕ, List, [], ◌∷◌, ◌++◌, length, sym, ap, ◌∙◌, subst, arith, rules}
+use Rattle.std.proofs.Common.{◌≡◌, ◌<◌, ◌-◌, ◌^◌, ◌∷◌, [], sym, ap, ap₂, ◌∙◌, length, length-append, rules}
+use Rattle.std.proofs.Common.{arith}
+use Rattle.std.proofs.lemmas.Result.{err_from_is_err_and}
 use Rattle.std.specs.Int.{w32, to_be_bytes}
-use Rattle.std.specs.Str.{IsUtf8}
-use Rattle.ori_spec_data.specs.Value.{Fields}
-use Rattle.ori_spec_data.specs.Sizes.{text_size}
-use Rattle.ori_record.specs.Spelling.{IsCounted, AreFields, Spells}
+use Rattle.ori_bytes.specs.declared.limits.TheConstants.{MAX_NESTING}
 use Rattle.ori_model.specs.Data.{record_of}
-use Rattle.ori_record.specs.Kinds.{entries_size}
-use Rattle.ori_record.specs.Parts.{AreTexts}
-use Rattle.ori_record.proofs.Forms.{counted_long}
-use Rattle.ori_record.proofs.Names.{names_of}
-use Rattle.ori_record.proofs.Entries.{fields_facts}
-use Rattle.ori_record.proofs.Wholes.{written_from, spelled_size}
+use Rattle.ori_record.specs.declared.fault.RecordFault.TheVariants.{TooDeep}
+use Rattle.ori_record.specs.Seen.{own_left}
+use Rattle.ori_record.specs.Spelling.{AreOwnFields, IsHeaded}
+use Rattle.ori_record.specs.Writable.{first_place, merged, own_header_size}
+use Rattle.ori_record.specs.Writing.{Adds, own_nestings}
+use Rattle.ori_record.proofs.Filling.{merged_ready, merged_nestings, deep_told, spelled_so, same_error}
 use Rattle.ori_record.proofs.record.write.Goals as goal
 
-pub returns-clause-spelled : goal.returns-clause-spelled
-returns-clause-spelled c =
-    let stored = c.args.stored.now in
-    let at = 1 + c.text_size.result + c.entries_size.result + 1 in
-    let w = c.in-Some.fields in
-    let o = rw c.in-Some.is at c.in_ok-fields.ensures in
-    let fields : AreFields at w.entries w.values stored.fields =
-    subst (λ (fs : Fields). AreFields at w.entries w.values fs) c.as_slice-pairs.ensures.all o.0 in
-    let texts : AreTexts stored.fields = subst (λ (fs : Fields). AreTexts fs) c.as_slice-pairs.ensures.all o.1 in
-    let t = c.in_ok-put_text.ensures in
-    let counted : IsCounted t.0 stored.class = subst (λ (x : List ℕ). IsCounted t.0 x) c.as_str-class.ensures t.1 in
-    let utf8 : IsUtf8 stored.class = subst (λ (x : List ℕ). IsUtf8 x) c.as_str-class.ensures c.as_str-class.utf8 in
-    let class : c.text_size.result ≡ text_size stored.class =
-    c.text_size.ensures ∙ ap text_size c.as_str-class.ensures in
-    let entries : c.entries_size.result ≡ entries_size stored.fields =
-    c.entries_size.ensures ∙ ap entries_size c.as_slice-pairs.ensures.all in
-    let place : at ≡ 1 + length t.0 + entries_size stored.fields + 1 =
-    omega (arith, class, entries, counted_long t.0 stored.class counted) in
-    let fits : stored.version < 2 ^ 32 = search rules in
-    let names = names_of stored.fields c.as_slice-pairs.ensures.rising c.requires.own texts in
-    let whole : c.extend_from_slice-2.new.self ≡ ((((to_be_bytes w32 stored.version ++ 0 ∷ []) ++ t.0) ++ w.entries)
-    ++ 0 ∷ []) ++ w.values
-    = cc (
-      c.to_be_bytes.ensures,
-      c.in_ok-out.ensures,
-      c.in_ok-push.ensures.ok,
-      t.2,
-      c.as_slice.ensures,
-      c.in_ok-extend_from_slice.ensures.ok,
-      c.in_ok-push-2.ensures.ok,
-      c.as_slice-2.ensures,
-      c.in_ok-extend_from_slice-2.ensures.ok,
+pub put_header-requires-clause-ready : goal.put_header-requires-clause-ready
+put_header-requires-clause-ready c =
+    let fs = c.args.stored.now.fields in
+    let bs = c.args.bags.now in
+    let same : own_left c.new-own.result ≡ merged c.args.stored.now.fields c.args.bags.now
+    = c.new-own.ensures ∙ ap₂ merged c.as_slice.ensures.all c.as_slice-2.ensures.all in
+    let place : length c.push.new.self - c.len-base.result ≡ 1
+    = omega (
+      arith,
+      c.len-base.ensures,
+      ap length c.in_ok-push.ensures.ok,
+      length-append c.extend_from_slice.new.self (0 ∷ []),
     ) in
-    let spelled : Spells c.extend_from_slice-2.new.self (record_of stored)
-    = subst (λ (x : List ℕ). Spells x (record_of stored)) (sym whole)
-    (written_from stored.rid stored.version at stored.class t.0 w.entries w.values stored.fields fits counted utf8
-    place fields names) in
-    (spelled, spelled_size c.extend_from_slice-2.new.self (record_of stored) spelled)
+    rw (same, place, c.as_str.ensures) (merged_ready fs bs
+    (first_place 1 c.args.stored.now.class (own_header_size (merged fs bs))) c.requires.named c.requires.proper
+    c.requires.fit c.requires.placed)
 
-pub returns-clause-none : goal.returns-clause-none
-returns-clause-none c =
-    let w = c.in-Some.fields in
-    let o = rw c.in-Some.is at c.in_ok-fields.ensures in
-    let fields : AreFields (1 + c.text_size.result + c.entries_size.result + 1) w.entries w.values
-    c.args.stored.now.fields
-    = subst (λ (fs : Fields). AreFields (1 + c.text_size.result + c.entries_size.result + 1) w.entries w.values fs)
-    c.as_slice-pairs.ensures.all o.0 in
-    let written = (fields_facts c.args.stored.now.fields (1 + c.text_size.result + c.entries_size.result + 1) w.entries
-    w.values fields).written in
-    (λ h. absurd cc, λ h. sym h ∙ written)
+pub returns-in_err-put_header-clause-deep : goal.returns-in_err-put_header-clause-deep
+returns-in_err-put_header-clause-deep c = λ e.
+    let same : own_left c.new-own.result ≡ merged c.args.stored.now.fields c.args.bags.now
+    = c.new-own.ensures ∙ ap₂ merged c.as_slice.ensures.all c.as_slice-2.ensures.all in
+    let r = c.from_residual-in_err-put_header in
+    let p = err_from_is_err_and r.result r.ensures.1 in
+    let deep = deep_told {X = Unit {0}} (λ x. Adds (λ b. IsHeaded (length c.push.new.self - c.len-base.result)
+    c.as_str.result.now
+    (λ at g v. AreOwnFields at (own_left c.new-own.result) g v) b) c.push.new.self c.put_header.new.out)
+    (own_nestings (own_left c.new-own.result)) MAX_NESTING _ c.in_err-put_header.ensures
+    (sym p.2 ∙ same_error p.0 TooDeep (sym p.1 ∙ e)) in
+    omega (arith, deep, ap own_nestings same, merged_nestings c.args.stored.now.fields c.args.bags.now)
+
+pub returns-clause-ok : goal.returns-clause-ok
+returns-clause-ok c =
+    let fs = c.args.stored.now.fields in
+    let bs = c.args.bags.now in
+    let same : own_left c.new-own.result ≡ merged c.args.stored.now.fields c.args.bags.now
+    = c.new-own.ensures ∙ ap₂ merged c.as_slice.ensures.all c.as_slice-2.ensures.all in
+    let place : length c.push.new.self - c.len-base.result ≡ 1
+    = omega (
+      arith,
+      c.len-base.ensures,
+      ap length c.in_ok-push.ensures.ok,
+      length-append c.extend_from_slice.new.self (0 ∷ []),
+    ) in
+    let versioned : c.extend_from_slice.new.self ≡ to_be_bytes w32 c.args.stored.now.version = search rules in
+    let fits : c.args.stored.now.version < 2 ^ 32 = search rules in
+    let written = rw (same, place, c.as_str.ensures) at c.in_ok-put_header.ensures in
+    spelled_so (record_of c.args.stored.now) c.args.bags.now c.extend_from_slice.new.self c.push.new.self
+    c.put_header.new.out versioned c.in_ok-push.ensures.ok fits c.as_slice.ensures.rising c.as_slice-2.ensures.rising
+    c.requires.no_bags written.0 written.1

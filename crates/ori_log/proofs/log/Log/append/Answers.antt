@@ -153,6 +153,7 @@ returns-clause-files g c =
     (λ old mid new body gate. append_files c.args.self.now _ c.args.images.now c.zeros_behind-zeros.result old mid new
     (c.zeros_behind-zeros.ensures.value
     ∙ ap (λ (n : ℕ). zeros_behind c.args.self.now.length n) (omega (arith, c.len.ensures.value, size)))
+    (ap (λ l. l.master) c.in_ok-open_gate.ensures.same ∙ (c.in_ok-write_body.ensures.same).4)
     (ap (λ l. l.file) c.in_ok-open_gate.ensures.same ∙ (c.in_ok-write_body.ensures.same).0)
     (omega (arith, place, c.len.ensures.value, size))
     (omega (arith, long, c.max-self.ensures, c.len.ensures.value, size))

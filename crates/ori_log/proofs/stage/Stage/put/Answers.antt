@@ -1,6 +1,5 @@
 use Rattle.ori_volume.proofs.Known.{tells_map}
-use Rattle.ori_log.proofs.StageFiles.{files_copied}
-use Rattle.ori_log.proofs.Stages.{stages_copied}
+use Rattle.ori_log.proofs.Stages.{stages_copied, files_copied}
 use Rattle.ori_log.proofs.stage.Stage.put.Goals as goal
 
 pub returns-clause-crash : goal.returns-clause-crash

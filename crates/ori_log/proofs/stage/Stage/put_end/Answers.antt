@@ -4,8 +4,7 @@ use Rattle.ori_volume.specs.declared.failed.Failed.{Failed}
 use Rattle.ori_volume.specs.Story.{Tells}
 use Rattle.ori_volume.proofs.Known.{tells_then}
 use Rattle.ori_log.specs.Staging.{Stages, StagesFiles}
-use Rattle.ori_log.proofs.StageFiles.{files_then, files_failed}
-use Rattle.ori_log.proofs.Stages.{stages_then, stages_failed}
+use Rattle.ori_log.proofs.Stages.{stages_then, stages_failed, files_then, files_failed}
 use Rattle.ori_log.proofs.stage.Stage.put_end.Goals as goal
 
 pub returns-in_err-put_zeros-clause-crash : goal.returns-in_err-put_zeros-clause-crash

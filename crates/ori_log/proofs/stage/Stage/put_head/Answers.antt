@@ -2,8 +2,7 @@ use Rattle.std.proofs.Common.{◌+◌, ◌*◌, []}
 use Rattle.std.specs.Int.{w32, to_be_bytes}
 use Rattle.ori_volume.proofs.Known.{tells_map, tells_then}
 use Rattle.ori_log.specs.declared.stage.TheConstants.{IMAGE_BYTES}
-use Rattle.ori_log.proofs.StageFiles.{files_then, files_fails}
-use Rattle.ori_log.proofs.Stages.{stages_then}
+use Rattle.ori_log.proofs.Stages.{stages_then, files_then, files_fails}
 use Rattle.ori_log.proofs.stage.Stage.put_head.Goals as goal
 
 pub returns-clause-crash : goal.returns-clause-crash

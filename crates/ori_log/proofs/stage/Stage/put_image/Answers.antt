@@ -1,7 +1,6 @@
 use Rattle.std.specs.Int.{w32, to_be_bytes}
 use Rattle.ori_volume.proofs.Known.{tells_then}
-use Rattle.ori_log.proofs.StageFiles.{files_then}
-use Rattle.ori_log.proofs.Stages.{stages_then}
+use Rattle.ori_log.proofs.Stages.{stages_then, files_then}
 use Rattle.ori_log.proofs.stage.Stage.put_image.Goals as goal
 
 pub returns-clause-crash : goal.returns-clause-crash

@@ -6,8 +6,7 @@ use Rattle.ori_log.specs.Log.{image_bytes}
 use Rattle.ori_log.specs.Images.{image_data}
 use Rattle.ori_log.specs.Staging.{Stages, StagesFiles}
 use Rattle.ori_log.proofs.Images.{images_more}
-use Rattle.ori_log.proofs.StageFiles.{files_then, files_failed}
-use Rattle.ori_log.proofs.Stages.{stages_then, stages_failed}
+use Rattle.ori_log.proofs.Stages.{stages_then, stages_failed, files_then, files_failed}
 use Rattle.ori_log.proofs.stage.Stage.put_images.Goals as goal
 
 pub returns-in_err-put_image-clause-crash : goal.returns-in_err-put_image-clause-crash

@@ -10,8 +10,7 @@ use Rattle.ori_log.specs.Images.{image_data, behind_gate}
 use Rattle.ori_log.specs.Staging.{Stages, StagesFiles}
 use Rattle.ori_log.specs.declared.stage.TheConstants.{IMAGE_BYTES}
 use Rattle.ori_log.proofs.Images.{record_pieces}
-use Rattle.ori_log.proofs.StageFiles.{files_then, files_failed}
-use Rattle.ori_log.proofs.Stages.{stages_then, stages_failed}
+use Rattle.ori_log.proofs.Stages.{stages_then, stages_failed, files_then, files_failed}
 use Rattle.ori_log.proofs.stage.Stage.put_record.Goals as goal
 
 pub returns-in_err-put_images-clause-crash : goal.returns-in_err-put_images-clause-crash

@@ -1,7 +1,6 @@
 use Rattle.std.proofs.Common.{replicate}
 use Rattle.ori_volume.proofs.Known.{tells_map}
-use Rattle.ori_log.proofs.StageFiles.{files_copied}
-use Rattle.ori_log.proofs.Stages.{stages_copied}
+use Rattle.ori_log.proofs.Stages.{stages_copied, files_copied}
 use Rattle.ori_log.proofs.stage.Stage.put_zeros.Goals as goal
 
 pub returns-clause-crash : goal.returns-clause-crash

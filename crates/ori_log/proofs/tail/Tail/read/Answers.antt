@@ -10,6 +10,6 @@ returns-in_err-read_record-clause-not_a_log g c named is =
     let told = c.in_err-read_record.ensures.not_a_log named (cc fault) in (
       told.0,
       no_log_told (g.V.Volume.files c.args.volume.now) (g.V.Volume.files c.loop-tail.volume) c.args.file c.args.len
-          c.loop-tail.tail c.loop-tail.invariant.files
+          c.loop-tail.tail c.loop-tail.invariant.same.files
           c.loop-tail.invariant.value told.1,
     )

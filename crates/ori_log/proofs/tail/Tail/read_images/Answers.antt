@@ -1,8 +1,9 @@
-use Rattle.std.proofs.Common.{refl, ◌≡◌, ◌+◌, ◌*◌, ◌∙◌, arith}
+use Rattle.std.proofs.Common.{refl, ◌≡◌, ◌+◌, ◌*◌, arith}
+use Rattle.ori_volume.proofs.OnlyRead.{read_then}
 use Rattle.ori_log.specs.Images.{image_data}
 use Rattle.ori_log.specs.declared.fault.LogFault.TheVariants.{NotALog}
 use Rattle.ori_log.specs.declared.stage.TheConstants.{IMAGE_BYTES}
-use Rattle.ori_log.proofs.Reading.{images_step, images_broken, bounded_more, passed_on, reads_then}
+use Rattle.ori_log.proofs.Reading.{images_step, images_broken, bounded_more, passed_on}
 use Rattle.ori_log.proofs.tail.Tail.read_images.Goals as goal
 
 pub returns-in_err-page-clause-not_a_log : goal.returns-in_err-page-clause-not_a_log
@@ -13,8 +14,8 @@ returns-in_err-page-clause-not_a_log g c named is =
       told.0,
       images_broken (g.V.Volume.files c.args.volume.now) (g.V.Volume.files c.loop-i.volume) c.args.file
           c.args.self.now.place c.args.count c.loop-i.i c.loop-i.low
-          (c.args.self.now.place + 9 + IMAGE_BYTES * c.loop-i.i) c.args.self.now c.loop-i.self c.loop-i.invariant.files
-          c.loop-i-test.true refl c.loop-i.invariant.value told.1,
+          (c.args.self.now.place + 9 + IMAGE_BYTES * c.loop-i.i) c.args.self.now c.loop-i.self
+          c.loop-i.invariant.same.files c.loop-i-test.true refl c.loop-i.invariant.value told.1,
     )
 
 pub loop-i-preserved : goal.loop-i-preserved
@@ -23,7 +24,7 @@ loop-i-preserved g c = record {
       images_step (g.V.Volume.files c.args.volume.now) (g.V.Volume.files c.loop-i.volume) c.args.file
       c.args.self.now.place c.args.count c.loop-i.i c.loop-i.low
       (c.args.self.now.place + 9 + IMAGE_BYTES * c.loop-i.i) c.args.self.now c.loop-i.self _
-      (image_data c.in_ok-page.field-0) c.loop-i.invariant.files c.loop-i-test.true refl
+      (image_data c.in_ok-page.field-0) c.loop-i.invariant.same.files c.loop-i-test.true refl
       c.loop-i.invariant.value c.in_ok-page.ensures.value c.in_ok-page.ensures.whole c.in_ok-page.ensures.follows.0
       c.in_ok-page.ensures.follows.1 c.in_ok-insert.ensures.updates.0 refl;
   place = c.loop-i.invariant.place;
@@ -32,8 +33,6 @@ loop-i-preserved g c = record {
       bounded_more c.loop-i.self.pages c.insert.new.self c.in_ok-page.field-0.page c.in_ok-page.field-0.content
       c.in_ok-page.ensures.follows.1 c.in_ok-insert.ensures.updates.0
       (c.loop-i.invariant.bounded before);
-  files = c.in_ok-page.ensures.files ∙ c.loop-i.invariant.files;
-  story = reads_then _ _ _ c.loop-i.invariant.story c.in_ok-page.ensures.story;
+  same = read_then _ _ _ c.loop-i.invariant.same c.in_ok-page.ensures.same;
   faults = omega (arith, c.in_ok-page.ensures.faults.later);
-  log_faults = c.in_ok-page.ensures.log_faults ∙ c.loop-i.invariant.log_faults;
 }

@@ -1,6 +1,6 @@
 use Rattle.std.proofs.Common.{◌≡◌, ◌+◌, ◌*◌, ◌≤◌, length, IfSome, List}
 use Rattle.ori_volume.specs.Disk.{of_file}
-use Rattle.ori_volume.specs.Story.{Tells, Reads}
+use Rattle.ori_volume.specs.OnlyRead.{IsOnlyRead}
 use Rattle.ori_log.specs.Log.{ImageData}
 use Rattle.ori_log.specs.Tails.{IsBounded}
 use Rattle.ori_log.specs.declared.stage.TheConstants.{IMAGE_BYTES}
@@ -16,8 +16,6 @@ invariant-loop-i g l = record {
   place : l.self.place ≡ l.fn.self.place;
   records : l.self.records ≡ l.fn.self.records;
   bounded : IsBounded l.fn.self → IsBounded l.self;
-  files : g.V.Volume.files l.volume ≡ g.V.Volume.files l.fn.volume;
-  story : Tells Reads (g.V.Volume.story l.fn.volume) (g.V.Volume.story l.volume);
+  same : IsOnlyRead g.V.Volume.files g.V.Volume.story g.V.Volume.moment g.V.Volume.log_faults l.fn.volume l.volume;
   faults : g.V.Volume.faults l.fn.volume ≤ g.V.Volume.faults l.volume;
-  log_faults : g.V.Volume.log_faults l.volume ≡ g.V.Volume.log_faults l.fn.volume;
 }

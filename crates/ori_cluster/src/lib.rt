@@ -1,0 +1,15 @@
+//! Clusters: the records of one class, each at a position, in chunks on slots pages.
+//!
+//! A contract sees a cluster as a map from positions to bytes. A position is given once. The pages stand for a cluster
+//! by one definition, which the crates above cite.
+#![tactic(auto)]
+
+mod chunk;
+mod reading;
+mod walking;
+
+pub use reading::read;
+pub use walking::{found, next_after};
+
+/// The greatest length of a record, in bytes.
+pub const MAX_BYTES: u32 = 1 << 20;

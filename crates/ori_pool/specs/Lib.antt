@@ -1,0 +1,5 @@
+pub mod Commits
+pub mod Devices
+pub mod Finishes
+pub mod Held
+pub mod Sends

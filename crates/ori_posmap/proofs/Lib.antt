@@ -1,0 +1,9 @@
+pub mod Calls
+pub mod Effects
+pub mod Faults
+pub mod Mapping
+pub mod Owners
+pub mod Pieces
+pub mod Keeping
+pub mod Living
+pub mod Spelling

@@ -1,0 +1,5 @@
+mod Owning
+mod Homes
+mod Marking
+mod Told
+mod Making

@@ -1,0 +1,5 @@
+pub mod Slots
+pub mod Seats
+pub mod Caches
+pub mod Owning
+pub mod Flushes

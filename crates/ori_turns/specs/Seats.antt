@@ -1,0 +1,69 @@
+-- What a handle holds of the turns, and what it tells.
+use Rattle.std.specs.Prelude.{◌≡◌, ℕ, Bool, List, Option, Some, None, slice_index_or, slice_set, replicate, IfSome}
+use Rattle.std.specs.Option.{option_map}
+use Rattle.ori_bytes.specs.declared.limits.TheConstants.{PARTITIONS}
+use Rattle.ori_part.specs.Parts.{PartData, no_pages}
+
+-- the partitions, k at place k, and the device, as they were last given
+pub record Told (D : Type 0) : Type 0 where
+  pub parts : List PartData
+  pub device : D
+
+-- a handle: whether it is the engine's, what it holds, each as it was taken, and what it knows of the rest
+pub record Seat (D : Type 0) : Type 0 where
+  pub engine : Bool
+  -- partition k at place k, where the handle holds its turn
+  pub parts : List (Option PartData)
+  -- the device, where it holds that turn
+  pub device : Option D
+  -- the counts of the device that it last gave, at first those of the volume
+  pub faults : ℕ
+  pub log_faults : ℕ
+  -- the values as they were last given, by whichever handle
+  pub told : Option (Told D)
+
+-- partition k, where it is held
+abbrev pub held_part : {D : Type 0} → Seat D → ℕ → Option PartData
+held_part seat k = slice_index_or seat.parts k None
+
+-- partition k of these
+abbrev pub told_at : {D : Type 0} → Told D → ℕ → PartData
+told_at told k = slice_index_or told.parts k no_pages
+
+-- what it tells is so, if it tells
+abbrev pub IsTold : {D : Type 0} → (Told D → Type 0) → Seat D → Type 0
+IsTold P seat = IfSome seat.told P
+
+-- no turn is held
+pub record HoldsNothing {D : Type 0} (seat : Seat D) : Type 0 where
+  pub parts : seat.parts ≡ replicate PARTITIONS None
+  pub device : seat.device ≡ None
+
+-- ---- takes and gives
+
+abbrev pub took_part : {D : Type 0} → ℕ → PartData → Seat D → Seat D
+took_part k part seat = record seat { parts = slice_set seat.parts k (Some part) }
+
+abbrev pub told_part : {D : Type 0} → ℕ → PartData → Told D → Told D
+told_part k part told = record told { parts = slice_set told.parts k part }
+
+abbrev pub gave_part : {D : Type 0} → ℕ → PartData → Seat D → Seat D
+gave_part k part seat = record seat {
+  parts = slice_set seat.parts k None;
+  told = option_map (told_part k part) seat.told;
+}
+
+abbrev pub took_device : {D : Type 0} → D → Seat D → Seat D
+took_device device seat = record seat { device = Some device }
+
+abbrev pub told_device : {D : Type 0} → D → Told D → Told D
+told_device device told = record told { device = device }
+
+-- with these counts
+abbrev pub gave_device : {D : Type 0} → D → ℕ → ℕ → Seat D → Seat D
+gave_device device faults log_faults seat = record seat {
+  device = None;
+  faults = faults;
+  log_faults = log_faults;
+  told = option_map (told_device device) seat.told;
+}

@@ -1,0 +1,15 @@
+//! Turns over the cache: eight partitions and the device, each of which is taken, used and given back.
+//!
+//! A handle meets [`Frames`]: it says what a taken partition and a taken device are to each other, so that a call over
+//! frames needs to know of no other handle. [`Owned`] is the only handle of its turns, and finds each of them free.
+#![tactic(auto)]
+
+mod flushing;
+mod frames;
+mod owned;
+mod slot;
+
+pub use flushing::flush_one;
+pub use frames::Frames;
+pub use owned::Owned;
+pub use slot::Slot;
