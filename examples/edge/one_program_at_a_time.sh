@@ -1,6 +1,7 @@
 # A second program is refused as long as the first is at work, and nothing is lost.
 mkdir db
 mkfifo lines
+: >replies
 "$program" db script <lines >replies &
 first=$!
 exec 9>lines
