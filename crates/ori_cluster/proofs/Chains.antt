@@ -1,13 +1,14 @@
 -- What a chain of chunks says where it is read.
-use Rattle.std.proofs.Common.{◌≡◌, ◌≢◌, ℕ, ◌+◌, ◌-◌, true, List, [], ◌∷◌, ◌++◌, length, sym, ap}
+use Rattle.std.proofs.Common.{◌≡◌, ◌≢◌, ℕ, ◌+◌, ◌-◌, Bool, true, false, refl, List, [], ◌∷◌, ◌++◌, length, sym, ap}
 use Rattle.std.proofs.Common.{subst, ◌∙◌, true≢false, append_assoc, append-nil, arith}
-use Rattle.std.proofs.lemmas.Bool.{and_from, lt-ltb}
+use Rattle.std.proofs.lemmas.Bool.{and_from, and_parts, lt-ltb}
 use Rattle.ori_page.specs.declared.fault.PageFault.{PageFault}
 use Rattle.ori_page.specs.declared.fault.PageFault.TheVariants.{NoMemory, Device, Busy, Damaged, PagesFull}
 use Rattle.ori_page.specs.Spaces.{page_at}
 use Rattle.ori_posmap.specs.Reading.{WhyNotRead}
 use Rattle.ori_cluster.specs.declared.chunk.Link.{Link}
-use Rattle.ori_cluster.specs.Slots.{Spot, Chunk, chunk_on, chunk_place, Links, has_spot, Adds, WhyBroken}
+use Rattle.ori_cluster.specs.Slots.{Spot, Chunk, chunk_on, chunk_place, has_chunk, Links, has_spot, Adds, WhyBroken}
+use Rattle.ori_cluster.specs.Drops.{has_slots}
 
 -- the chunk of a page and slot
 abbrev pub chunk_of : List (List ℕ) → ℕ → ℕ → Chunk
@@ -44,6 +45,31 @@ step pages owner (spot ∷ rest) p s bytes h some =
     } in
     subst (λ (y : ℕ). Step pages owner (spot ∷ rest) y s bytes) (sym h.0)
     (subst (λ (y : ℕ). Step pages owner (spot ∷ rest) spot.page y bytes) (sym h.1) first)
+
+-- ---- where no chunk stands
+
+false_from : (b : Bool) → (b ≡ true → ⊥) → b ≡ false
+false_from true none = absurd (none refl)
+false_from false none = refl
+
+pub no_spot : (pages : List (List ℕ)) (owner p s : ℕ) (page : List ℕ) → page ≡ page_at pages p
+    → has_chunk s page ≡ false → has_spot pages owner p s ≡ false
+no_spot pages owner p s page is none =
+    false_from (has_spot pages owner p s)
+    (λ x. true≢false (sym (and_parts (has_slots pages owner p) (has_chunk s (page_at pages p)) x).1
+    ∙ ap (has_chunk s) (sym is) ∙ none))
+
+pub no_slots : (pages : List (List ℕ)) (owner p s : ℕ) (fault : PageFault)
+    → WhyNotRead (has_slots pages owner p) p fault → WhyNotRead (has_spot pages owner p s) p fault
+no_slots pages owner p s NoMemory h = tt
+no_slots pages owner p s Device h = tt
+no_slots pages owner p s (Busy turn) h = h
+no_slots pages owner p s (Damaged q) h = (
+  h.0,
+  false_from (has_spot pages owner p s)
+      (λ x. true≢false (sym (and_parts (has_slots pages owner p) (has_chunk s (page_at pages p)) x).0 ∙ h.1)),
+)
+no_slots pages owner p s PagesFull h = h
 
 -- ---- what is answered
 

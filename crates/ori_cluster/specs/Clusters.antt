@@ -1,12 +1,14 @@
 -- A cluster: the pages of a position map and slots pages, which stand for a map from positions to bytes.
-use Rattle.std.specs.Prelude.{◌≡◌, ◌≢◌, ◌⊎◌, ℕ, ◌+◌, ◌-◌, ◌/◌, ◌<◌, ◌≤◌, true}
+use Rattle.std.specs.Prelude.{◌≡◌, ◌≢◌, ◌⊎◌, ℕ, ◌+◌, ◌-◌, ◌/◌, ◌<◌, ◌≤◌, Bool, true, false}
 use Rattle.std.specs.Prelude.{ℤ, pos, negsuc, Option, Some, None, List, [], length, slice_get, slice_index}
-use Rattle.ori_bytes.specs.declared.limits.TheConstants.{FREE_KIND, BYTES_PER_WEIGHT}
+use Rattle.ori_bytes.specs.declared.limits.TheConstants.{FREE_KIND, BYTES_PER_WEIGHT, MAX_PAGES, MAX_POSITIONS}
 use Rattle.ori_bytes.specs.declared.limits.TheConstants.{MAP_ENTRIES, MAX_MAP_PAGES, PARTITIONS}
 use Rattle.ori_page.specs.declared.fault.PageFault.{PageFault}
 use Rattle.ori_page.specs.declared.fault.PageFault.TheVariants.{NoMemory, Device, Busy, Damaged, PagesFull}
 use Rattle.ori_page.specs.Pages.{kind_of}
-use Rattle.ori_page.specs.Spaces.{page_at}
+use Rattle.ori_page.specs.Spaces.{page_at, HasFreeList, in_use}
+use Rattle.ori_posmap.specs.declared.fault.PosFault.{PosFault}
+use Rattle.ori_posmap.specs.declared.fault.PosFault.TheVariants.{Page, ClusterFull}
 use Rattle.ori_posmap.specs.declared.place.Place.{Place}
 use Rattle.ori_posmap.specs.Maps.{PositionMap, place_at, IsPositionMap, IsOwn, empty_map, ChangesOwn}
 use Rattle.ori_cluster.specs.declared.TheConstants.{MAX_BYTES}
@@ -147,3 +149,37 @@ abbrev pub passed_to : ℕ → Option ℤ → ℕ
 passed_to from (Some (pos q)) = q / MAP_ENTRIES - from / MAP_ENTRIES
 passed_to from (Some (negsuc n)) = MAX_MAP_PAGES
 passed_to from None = MAX_MAP_PAGES
+
+-- ---- records that change
+
+-- how many bytes the record at a position has
+abbrev pub length_of : Option (List ℕ) → ℕ
+length_of (Some bytes) = length bytes
+length_of None = 0
+
+-- A record was there and is these bytes now, or gone; or none was, and nothing has changed.
+abbrev pub Changed : ℕ → Cluster → ℤ → Option (List ℕ) → Bool → List (List ℕ) → List (List ℕ) → Type 0
+Changed dir c position bytes true before after = (q : ℕ) × (position ≡ pos q) × (record_at c q ≢ None)
+    × Stores dir c q (length c.map.entries) bytes (bound (length_of (record_at c q)) (length_of bytes)) before after
+Changed dir c position bytes false before after = (record_of c position ≡ None) × (after ≡ before)
+
+-- Damaged: the pages don't stand for a cluster, or the list of free pages isn't whole. PagesFull: the pages in use and
+-- those that the call may take are more than there may be.
+abbrev pub WhyStored : List (List ℕ) → ℕ → ℤ → ℕ → PageFault → Type 0
+WhyStored pages dir position new NoMemory = Unit {0}
+WhyStored pages dir position new Device = Unit {0}
+WhyStored pages dir position new (Busy turn) = turn ≤ PARTITIONS
+WhyStored pages dir position new (Damaged page) = (c : Cluster) → IsCluster pages dir c → HasFreeList pages → ⊥
+WhyStored pages dir position new PagesFull = (c : Cluster) → IsCluster pages dir c → HasFreeList pages
+    → MAX_PAGES < in_use pages + bound (length_of (record_of c position)) new
+
+-- The same of a new record; ClusterFull: as many positions were given as there may be.
+abbrev pub WhyCreated : List (List ℕ) → ℕ → ℕ → PosFault → Type 0
+WhyCreated pages dir most (Page NoMemory) = Unit {0}
+WhyCreated pages dir most (Page Device) = Unit {0}
+WhyCreated pages dir most (Page (Busy turn)) = turn ≤ PARTITIONS
+WhyCreated pages dir most (Page (Damaged page)) = (c : Cluster) → IsCluster pages dir c → HasFreeList pages → ⊥
+WhyCreated pages dir most (Page PagesFull) = (c : Cluster) → IsCluster pages dir c → HasFreeList pages
+    → MAX_PAGES < in_use pages + most
+WhyCreated pages dir most ClusterFull = (c : Cluster) → IsCluster pages dir c
+    → length c.map.entries ≡ MAX_POSITIONS

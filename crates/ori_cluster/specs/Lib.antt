@@ -1,2 +1,5 @@
 pub mod Clusters
+pub mod Drops
+pub mod Growing
 pub mod Slots
+pub mod Staging

@@ -1,12 +1,14 @@
 -- Slots pages, and the chunks of records on them.
-use Rattle.std.specs.Prelude.{◌≡◌, ◌≢◌, ℕ, ◌+◌, ◌-◌, ◌*◌, ◌<◌, ◌≤◌, ◌==◌, Bool, true, ◌&&◌, nat_le, nat_lt, List, []}
+use Rattle.std.specs.Prelude.{◌≡◌, ◌≢◌, ℕ, ◌+◌, ◌-◌, ◌*◌, ◌<◌, ◌≤◌, ◌==◌, Bool, true, false, ◌&&◌, nat_le, nat_lt}
+use Rattle.std.specs.Prelude.{List, []}
 use Rattle.std.specs.Prelude.{◌∷◌, ◌++◌, length, take, drop, replicate}
 use Rattle.std.specs.Int.{w16, w32, to_be_bytes, from_be_bytes}
-use Rattle.ori_bytes.specs.declared.limits.TheConstants.{PAGE_BYTES, SLOTS_KIND, PARTITIONS}
+use Rattle.ori_bytes.specs.declared.limits.TheConstants.{PAGE_BYTES, FREE_KIND, SLOTS_KIND, PARTITIONS}
 use Rattle.ori_page.specs.declared.fault.PageFault.{PageFault}
 use Rattle.ori_page.specs.declared.fault.PageFault.TheVariants.{NoMemory, Device, Busy, Damaged, PagesFull}
 use Rattle.ori_page.specs.Pages.{page_head, owner_of, kind_of, number_at}
 use Rattle.ori_page.specs.Spaces.{page_at}
+use Rattle.ori_posmap.specs.Maps.{ChangesOwn}
 use Rattle.ori_posmap.specs.Reading.{in_range}
 use Rattle.ori_cluster.specs.declared.chunk.Link.{Link}
 
@@ -62,6 +64,61 @@ pub record IsSlotsPage (owner : ℕ) (page : List ℕ) : Type 0 where
   pub zeros : take (PAGE_BYTES - 2 * slot_count page - used_end page) (drop (used_end page) page)
       ≡ replicate (PAGE_BYTES - 2 * slot_count page - used_end page) 0
   pub chunks : (s : ℕ) → s < slot_count page → chunk_place s page ≢ 0 → has_chunk s page ≡ true
+
+-- ---- chunks that come and go
+
+-- how a chunk is spelled: page and slot of the next one, the length, and the bytes
+abbrev pub chunk_bytes : Link → List ℕ → List ℕ
+chunk_bytes next bytes =
+    to_be_bytes w32 next.page ++ to_be_bytes w16 next.slot ++ to_be_bytes w16 (length bytes) ++ bytes
+
+-- a slot names a chunk exactly where it did, and that one says what it said
+pub record KeepsChunk (s : ℕ) (old new : List ℕ) : Type 0 where
+  pub has : has_chunk s new ≡ has_chunk s old
+  pub says : has_chunk s old ≡ true → chunk_on (chunk_place s new) new ≡ chunk_on (chunk_place s old) old
+
+-- A slots page has one chunk more, in a new slot behind the others, and keeps the other chunks.
+pub record HasMore (owner : ℕ) (next : Link) (bytes old new : List ℕ) : Type 0 where
+  pub slots : IsSlotsPage owner new
+  pub count : slot_count new ≡ slot_count old + 1
+  pub used : used_end new ≡ used_end old + 8 + length bytes
+  pub has : has_chunk (slot_count old) new ≡ true
+  pub says : chunk_on (chunk_place (slot_count old) new) new
+      ≡ record { page = next.page; slot = next.slot; bytes = bytes }
+  pub others : (s : ℕ) → s ≢ slot_count old → KeepsChunk s old new
+
+-- A slots page has no chunk in this slot, and keeps the chunks of the others.
+pub record HasLess (owner s : ℕ) (old new : List ℕ) : Type 0 where
+  pub slots : IsSlotsPage owner new
+  pub count : slot_count new ≡ slot_count old
+  pub used : used_end new ≡ used_end old
+  pub gone : has_chunk s new ≡ false
+  pub others : (r : ℕ) → r ≢ s → KeepsChunk r old new
+
+-- how a slots page without a slot begins; zeros follow
+abbrev pub bare_front : ℕ → List ℕ
+bare_front owner = page_head owner SLOTS_KIND ++ to_be_bytes w16 0 ++ to_be_bytes w16 16
+
+-- a slots page without a slot
+pub record IsBare (owner : ℕ) (page : List ℕ) : Type 0 where
+  pub slots : IsSlotsPage owner page
+  pub count : slot_count page ≡ 0
+  pub used : used_end page ≡ 16
+
+-- a slots page with this chunk alone, in slot 0
+pub record IsLone (owner : ℕ) (next : Link) (bytes page : List ℕ) : Type 0 where
+  pub slots : IsSlotsPage owner page
+  pub has : has_chunk 0 page ≡ true
+  pub says : chunk_on (chunk_place 0 page) page ≡ record { page = next.page; slot = next.slot; bytes = bytes }
+  pub only : (s : ℕ) → s ≢ 0 → has_chunk s page ≡ false
+
+-- A page that was free, or is new, has this chunk alone.
+pub record IsPutAlone (owner p : ℕ) (next : Link) (bytes : List ℕ) (before after : List (List ℕ)) : Type 0 where
+  pub above : 0 < p
+  pub below : p < length after
+  pub was_free : p < length before → kind_of (page_at before p) ≡ FREE_KIND
+  pub page : IsLone owner next bytes (page_at after p)
+  pub changes : ChangesOwn (λ q. ⊥) 1 before after
 
 -- ---- chains
 

@@ -5,10 +5,18 @@
 #![tactic(auto)]
 
 mod chunk;
+mod dropping;
+mod placing;
 mod reading;
+mod replacing;
+mod slots;
+mod storing;
 mod walking;
 
+pub use dropping::remove;
 pub use reading::read;
+pub use replacing::replace;
+pub use storing::create;
 pub use walking::{found, next_after};
 
 /// The greatest length of a record, in bytes.

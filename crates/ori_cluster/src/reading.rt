@@ -41,7 +41,7 @@ fn gather<P: PageSpace>(
 }
 
 // How many chunks a record of so many bytes may have.
-fn most_chunks(bytes: u32) -> u32
+pub(crate) fn most_chunks(bytes: u32) -> u32
     requires { bytes ≤ MAX_BYTES }
     ensures { result ≡ most_chunks bytes }
 {

@@ -7,5 +7,6 @@ pub mod HomeSteps
 pub mod Logging
 pub mod ReadLogs
 pub mod ReadSteps
+pub mod Views
 pub mod Opening
 mod Worked

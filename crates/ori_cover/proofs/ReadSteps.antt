@@ -4,14 +4,14 @@ use Rattle.std.proofs.Common.{Bool, true, false, List, [], ◌∷◌, ◌++◌, 
 use Rattle.std.proofs.Common.{Result, Ok, Err, OnOk, refl, sym, ◌∙◌, ap, subst, arith, length-append}
 use Rattle.std.proofs.lemmas.Option.{none-some}
 use Rattle.std.specs.Int.{w32, to_be_bytes}
-use Rattle.ori_bytes.specs.declared.limits.TheConstants.{PAGE_BYTES, OPEN_GATE, CLOSED_GATE}
+use Rattle.ori_bytes.specs.declared.limits.TheConstants.{PAGE_BYTES, MAX_LOG_BYTES, OPEN_GATE, CLOSED_GATE}
 use Rattle.ori_volume.specs.declared.file.FileNo.{FileNo}
 use Rattle.ori_volume.specs.declared.file.FileNo.TheVariants.{Master, LogA, LogB, Pages}
 use Rattle.ori_volume.specs.Disk.{Four, of_file, with_file, FileData, Disk, Files, files_of, AreBytes, IsImage}
 use Rattle.ori_volume.specs.Disk.{firm_file, firm_disk}
 use Rattle.ori_volume.specs.Effects.{put, written, TornBytes}
 use Rattle.ori_volume.specs.Story.{ChangesFile, FilesWrite}
-use Rattle.ori_volume.proofs.Data.{of_with, of_files}
+use Rattle.ori_volume.proofs.Data.{with_of, of_with, of_files}
 use Rattle.ori_volume.proofs.Lasting.{written_torn}
 use Rattle.ori_log.specs.Log.{ImageData, body_bytes, record_bytes, IsLogRecord, IsLog, IsTailOf}
 use Rattle.ori_log.specs.Files.{is_log_file, other_log, file_named, files_data, zeros_behind, appended}
@@ -24,9 +24,9 @@ use Rattle.ori_log.proofs.Puts.{length-put}
 use Rattle.ori_log.proofs.Logs.{tail_named, image_log, opened}
 use Rattle.ori_log.proofs.Switching.{other_in_log, master_apart, other_here}
 use Rattle.ori_cover.specs.Homes.{IsHome}
-use Rattle.ori_cover.specs.Dirty.{Dirty, unwritten, AreClean, AreInstalled, IsMarked}
+use Rattle.ori_cover.specs.Dirty.{Dirty, unwritten, AreClean, AreInstalled, IsMarked, AreSettled}
 use Rattle.ori_cover.specs.Given.{ArePut, HoldsPages}
-use Rattle.ori_cover.specs.Cover.{IsCovered, Stands, InDoubt, Covers}
+use Rattle.ori_cover.specs.Cover.{IsSized, IsCovered, Stands, InDoubt, Covers}
 use Rattle.ori_cover.specs.Reading.{StandsRead, CoversRead, WritesHomeRead, PutsRecordRead}
 use Rattle.ori_cover.specs.Reading.{SwitchesLogRead, SyncsHomesRead}
 use Rattle.ori_cover.proofs.Homes.{home_put, bytes_stay}
@@ -42,10 +42,19 @@ use Rattle.ori_cover.proofs.ReadLogs.{appended_short, closed_log, firm_sound, ap
 
 -- ---- from the disk
 
+read_sized : (disk : Disk) → IsSized disk → IsImage disk (files_of disk) → IsSized (firm_disk (files_of disk))
+read_sized disk sized sound = record {
+  some = omega (arith, sized.some, (sound Master).no_shorter);
+  one = omega (arith, sized.one, (sound Master).no_longer);
+  log_a = omega (arith, sized.log_a, (sound LogA).no_longer);
+  log_b = omega (arith, sized.log_b, (sound LogB).no_longer);
+}
+
 pub covers_read : (dirty : Dirty) (pages doubt : PageList) (records : Records) (disk : Disk)
     → Covers dirty pages doubt records disk → IsImage disk (files_of disk)
     → CoversRead dirty pages doubt records (files_of disk)
 covers_read dirty pages doubt records disk covers sound = record {
+  sized = read_sized disk covers.sized sound;
   covered = covered_synced dirty pages records disk.pages covers.covered (sound Pages);
   tail = doubt_on dirty dirty doubt disk.pages (firm_file disk.pages.bytes) (files_of disk) (files_of disk) records
       (same_dirty dirty) (λ others tail. tail)
@@ -61,12 +70,7 @@ stands_read log records dirty pages disk stands sound =
     let same : length (of_file (files_of disk) log.file) ≡ length (of_file disk log.file).bytes =
     ap length (of_files disk log.file) in
     record {
-      sized = record {
-        some = omega (arith, stands.sized.some, (sound Master).no_shorter);
-        one = omega (arith, stands.sized.one, (sound Master).no_longer);
-        log_a = omega (arith, stands.sized.log_a, (sound LogA).no_longer);
-        log_b = omega (arith, stands.sized.log_b, (sound LogB).no_longer);
-      };
+      sized = read_sized disk stands.sized sound;
       stands = record {
         some = omega (arith, attached.names.least, (sound Master).no_shorter);
         byte = attached.byte;
@@ -103,8 +107,11 @@ all_sound files bytes Pages = firm_sound files.pages (bytes Pages)
 
 pub stands_covers_read : (log : Log) (records : Records) (dirty : Dirty) (pages doubt : PageList) (files : Files)
     → StandsRead log records dirty pages files → CoversRead dirty pages doubt records files
-stands_covers_read log records dirty pages doubt files stands =
-    record { covered = stands.covered; tail = inl (read_tail log records dirty pages files stands) }
+stands_covers_read log records dirty pages doubt files stands = record {
+  sized = stands.sized;
+  covered = stands.covered;
+  tail = inl (read_tail log records dirty pages files stands);
+}
 
 -- what is opened again holds the pages
 pub read_holds : (log : Log) (records : Records) (dirty : Dirty) (pages : PageList) (files : Files)
@@ -128,9 +135,10 @@ tail_stays old new records only tail =
 -- ---- a write of a page's home
 
 module _ (dirty : Dirty) (pages doubt : PageList) (records : Records) where
-  read_fewer : (now : Dirty) (files : Files) → CoversRead dirty pages doubt records files → Fewer dirty now
+  pub read_fewer : (now : Dirty) (files : Files) → CoversRead dirty pages doubt records files → Fewer dirty now
       → IsCovered now pages records (firm_file files.pages) → CoversRead now pages doubt records files
   read_fewer now files covers fewer covered = record {
+    sized = covers.sized;
     covered = covered;
     tail = doubt_on dirty now doubt (firm_file files.pages) (firm_file files.pages) files files records fewer
         (λ others tail. tail) (λ other. other.gives) covers.tail;
@@ -144,6 +152,7 @@ module _ (dirty : Dirty) (pages doubt : PageList) (records : Records) where
       let long : length new.pages ≤ max (length old.pages) (PAGE_BYTES * (page + 1)) =
       omega (arith, change.here.no_longer) in
       record {
+        sized = pages_sized (firm_disk old) (firm_disk new) covers.sized (ap firm_disk change.elsewhere);
         covered = covered_stay dirty pages records (firm_file old.pages) covers.covered page content
             (firm_file new.pages) is stay long;
         tail = doubt_on dirty dirty doubt (firm_file old.pages) (firm_file new.pages) old new records (same_dirty dirty)
@@ -200,11 +209,21 @@ module _ {T E : Type 0} (page : ℕ) (content : List ℕ) (old new : Files) (siz
 
 -- ---- a sync of the homes
 
-pub syncs_homes_read : (files : Files) → AreBytes files.pages → SyncsHomesRead files
-syncs_homes_read files bytes dirty now pages doubt records covers settled =
-    read_fewer dirty pages doubt records now files covers (settled_fewer dirty now settled)
-    (covered_settled dirty pages records (firm_file files.pages) covers.covered now (firm_sound files.pages bytes)
-    settled)
+pub syncs_homes_read : {T E : Type 0} (result : Result T E) (files : Files) → AreBytes files.pages
+    → SyncsHomesRead result files files
+syncs_homes_read {T} {E} result files bytes dirty pages doubt records covers = record {
+  only = sym (with_of files Pages);
+  covers = covers;
+  done = by result;
+}
+  where
+    by : (answer : Result T E) → OnOk answer ((now : Dirty) → AreSettled dirty now
+        → CoversRead now pages doubt records files)
+    by (Err fault) = tt
+    by (Ok value) = λ now settled.
+        read_fewer dirty pages doubt records now files covers (settled_fewer dirty now settled)
+        (covered_settled dirty pages records (firm_file files.pages) covers.covered now (firm_sound files.pages bytes)
+        settled)
 
 -- the log goes on standing while it and the master stay
 pub stands_on_read : (log : Log) (records : Records) (dirty now : Dirty) (pages doubt : PageList) (old new : Files)
@@ -267,6 +286,13 @@ record_long records images =
 module _ (log : Log) (images : List ImageData) (dirty : Dirty) (pages put : PageList) (records : Records)
     (old new : Files) (stands : StandsRead log records dirty pages old) (record_is : IsLogRecord images)
     (fits : need_of images ≤ room_of log) (are_put : ArePut images pages put) where
+  old_short : length (of_file old log.file) ≤ MAX_LOG_BYTES
+  old_short = omega (
+    arith,
+    log_short log.file (firm_disk old) log.in_log stands.sized,
+    ap (λ (f : FileData). f.greatest) (firm_of old log.file),
+  )
+
   put_read : (new_log : Log) (now : Dirty)
       → new ≡ with_file old log.file (appended (of_file old log.file) log.place images) → StandsIn new_log new
       → new_log.file ≡ log.file → new_log.place ≡ log.place + (need_of images - 1) → AreInstalled images dirty now
@@ -283,11 +309,7 @@ module _ (log : Log) (images : List ImageData) (dirty : Dirty) (pages put : Page
         sized = log_sized log.file (firm_disk old) (firm_disk new) (firm_file log_now) log.in_log stands.sized
             (ap firm_disk is ∙ firm_with old log.file log_now)
             (appended_short (of_file old log.file) log.place records images stands.holds stands.place record_is
-            (omega (
-              arith,
-              log_short log.file (firm_disk old) log.in_log stands.sized,
-              ap (λ (f : FileData). f.greatest) (firm_of old log.file),
-            )) (omega (arith, fits, log.within)));
+            old_short (omega (arith, fits, log.within)));
         stands = stands_in;
         holds = subst (λ (l : List ℕ). IsLog l (records ++ images ∷ [])) here
             (appended_log (of_file old log.file) log.place records images stands.holds stands.place record_is);
@@ -316,6 +338,8 @@ module _ (log : Log) (images : List ImageData) (dirty : Dirty) (pages put : Page
       stands.place record_is (zeros_behind log.length (log.place + 1 + length (behind_gate images))) log_now torn bytes)
       cut.either in
       record {
+        sized = log_sized log.file (firm_disk old) (firm_disk new) (firm_file log_now) log.in_log stands.sized
+            (ap firm_disk cut.only ∙ firm_with old log.file log_now) (omega (arith, cut.short, old_short));
         covered = covered;
         tail = ⊎_elim (λ (is : IsLog log_now records). inl (log_tail log new records some named is))
             (λ (is : IsLog log_now (records ++ images ∷ [])). inr (record {
@@ -329,11 +353,12 @@ module _ (log : Log) (images : List ImageData) (dirty : Dirty) (pages put : Page
 
 -- an append
 pub puts_record_read : {T E : Type 0} (log new_log : Log) (images : List ImageData) (result : Result T E)
-    (old new : Files) → AppendsFiles log new_log images result old new → AreBytes (of_file new log.file)
+    (old new : Files) → IsLogRecord images → need_of images ≤ room_of log
+    → AppendsFiles log new_log images result old new → AreBytes (of_file new log.file)
     → OnOk result ((new_log.place ≡ log.place + (need_of images - 1)) × (new_log.file ≡ log.file))
     → PutsRecordRead log new_log images result old new
-puts_record_read log new_log images (Ok value) old new appends bytes counts dirty pages put records stands record_is
-    fits are_put =
+puts_record_read log new_log images (Ok value) old new record_is fits appends bytes counts dirty pages put records
+    stands are_put =
     let done = appends stands.stands in
     record {
       failed = tt;
@@ -341,8 +366,8 @@ puts_record_read log new_log images (Ok value) old new appends bytes counts dirt
           new_log now
           done.0 done.1 counts.1 counts.0 installed;
     }
-puts_record_read log new_log images (Err fault) old new appends bytes counts dirty pages put records stands record_is
-    fits are_put =
+puts_record_read log new_log images (Err fault) old new record_is fits appends bytes counts dirty pages put records
+    stands are_put =
     record {
       failed = put_fails_read log images dirty pages put records old new stands record_is fits are_put
           (appends stands.stands) bytes;
@@ -424,14 +449,31 @@ module _ (log : Log) (dirty : Dirty) (pages : PageList) (records : Records) (old
         gives = homes_give dirty pages records (firm_file new.pages) covered clean;
         named = λ page d some. absurd (none-some d (sym (clean page) ∙ some));
       } in
+      let some : 0 < length new.master =
+      ⊎_elim (λ (same : new.master ≡ old.master). omega (arith, ap length same, stands.stands.some))
+      (λ (tried : (of_file new other ≡ CLOSED_GATE ∷ []) × TornBytes 0 1 old.master new.master).
+      omega (arith, tried.1.no_shorter, stands.stands.some)) cut.either in
+      let one : length new.master ≤ 1 =
+      ⊎_elim (λ (same : new.master ≡ old.master). omega (arith, ap length same, stands.sized.one))
+      (λ (tried : (of_file new other ≡ CLOSED_GATE ∷ []) × TornBytes 0 1 old.master new.master).
+      omega (arith, tried.1.no_longer, stands.sized.one)) cut.either in
       record {
+        sized = switch_sized log.file (firm_disk old) (firm_disk new) (firm_file (of_file new other))
+            (firm_file new.master) stands.sized
+            (ap firm_disk cut.only ∙ firm_with (with_file old other (of_file new other)) Master new.master
+            ∙ ap (λ (d : Disk). with_file d Master (firm_file new.master)) (firm_with old other (of_file new other)))
+            (omega (
+              arith,
+              cut.short,
+              log_short other (firm_disk old) (other_in_log log.file) stands.sized,
+              ap (λ (f : FileData). f.greatest) (firm_of old other),
+            ))
+            some one;
         covered = covered;
         tail = ⊎_elim (λ (same : new.master ≡ old.master). inl
-            (log_tail log new records (omega (arith, ap length same, stands.stands.some))
-            (stands.stands.named ∙ ap file_named (stands.stands.byte
+            (log_tail log new records some (stands.stands.named ∙ ap file_named (stands.stands.byte
             ∙ sym (ap (λ (l : List ℕ). slice_index l 0) same))) holds))
             (λ (tried : (of_file new other ≡ CLOSED_GATE ∷ []) × TornBytes 0 1 old.master new.master).
-            let some : 0 < length new.master = omega (arith, tried.1.no_shorter, stands.stands.some) in
             ⊎_elim (λ (this : log.file ≡ file_named (slice_index new.master 0)). inl
             (log_tail log new records some this holds))
             (λ (that : other ≡ file_named (slice_index new.master 0)). inr (none

@@ -4,3 +4,4 @@ pub mod Given
 pub mod Cover
 pub mod Steps
 pub mod Reading
+pub mod Views

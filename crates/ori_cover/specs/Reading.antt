@@ -1,10 +1,10 @@
 -- Cover of the bytes alone, as a read gives them: of a volume that doesn't tell what a crash may leave.
-use Rattle.std.specs.Prelude.{◌≤◌, ◌≡◌, ◌⊎◌, ℕ, List, [], ◌∷◌, ◌++◌, length, flat_map, Some, Result, OnOk, OnErr}
+use Rattle.std.specs.Prelude.{◌≡◌, ◌⊎◌, ℕ, List, [], ◌∷◌, ◌++◌, length, flat_map, Some, Result, OnOk, OnErr}
 use Rattle.ori_volume.specs.declared.file.FileNo.TheVariants.{Pages}
 use Rattle.ori_volume.specs.Disk.{Files, of_file, with_file, firm_file, firm_disk}
-use Rattle.ori_log.specs.Log.{ImageData, record_bytes, IsLogRecord, IsLog}
+use Rattle.ori_log.specs.Log.{ImageData, record_bytes, IsLog}
 use Rattle.ori_log.specs.Logs.{HasTail}
-use Rattle.ori_log.specs.Appending.{need_of, room_of, StandsIn}
+use Rattle.ori_log.specs.Appending.{StandsIn}
 use Rattle.ori_log.specs.declared.log.Log.{Log}
 use Rattle.ori_cover.specs.Homes.{IsHome, HomesStay, this_page}
 use Rattle.ori_cover.specs.Dirty.{Dirty, unwritten, AreClean, AreInstalled, IsMarked, AreSettled}
@@ -20,9 +20,11 @@ pub record StandsRead (log : Log) (records : List (List ImageData)) (dirty : Dir
   pub place : log.place ≡ length (flat_map record_bytes records)
   pub covered : IsCovered dirty pages records (firm_file files.pages)
 
--- the pages are covered by these records, which the tail has, or others that give the pages in doubt
+-- the pages are covered by these records, which the tail has, or others that give the pages in doubt; no log is longer
+-- than it may be
 pub record CoversRead (dirty : Dirty) (pages doubt : List (List ℕ)) (records : List (List ImageData))
     (files : Files) : Type 0 where
+  pub sized : IsSized (firm_disk files)
   pub covered : IsCovered dirty pages records (firm_file files.pages)
   pub tail : HasTail records files ⊎ InDoubt dirty doubt (firm_file files.pages) files
 
@@ -52,8 +54,7 @@ pub record PutRecordRead {T E : Type 0} (new_log : Log) (images : List ImageData
 
 abbrev pub PutsRecordRead : {T E : Type 0} → Log → Log → List ImageData → Result T E → Files → Files → Type 0
 PutsRecordRead old_log new_log images result old new = (dirty : Dirty) (pages put : List (List ℕ))
-    (records : List (List ImageData)) → StandsRead old_log records dirty pages old → IsLogRecord images
-    → need_of images ≤ room_of old_log → ArePut images pages put
+    (records : List (List ImageData)) → StandsRead old_log records dirty pages old → ArePut images pages put
     → PutRecordRead new_log images dirty pages put records result old new
 
 -- a switch, once no page is dirty
@@ -67,10 +68,16 @@ SwitchesLogRead old_log new_log result old new = (dirty : Dirty) (pages : List (
     (records : List (List ImageData)) → StandsRead old_log records dirty pages old → AreClean dirty
     → SwitchedLogRead new_log dirty pages records result old new
 
--- a sync of the homes changes no byte: the written pages may become clean
-abbrev pub SyncsHomesRead : Files → Type 0
-SyncsHomesRead files = (dirty now : Dirty) (pages doubt : List (List ℕ)) (records : List (List ImageData))
-    → CoversRead dirty pages doubt records files → AreSettled dirty now → CoversRead now pages doubt records files
+-- a sync of the homes, which changes no byte: after Ok the written pages may become clean
+pub record SyncedHomesRead {T E : Type 0} (dirty : Dirty) (pages doubt : List (List ℕ))
+    (records : List (List ImageData)) (result : Result T E) (old new : Files) : Type 0 where
+  pub only : new ≡ with_file old Pages new.pages
+  pub covers : CoversRead dirty pages doubt records new
+  pub done : OnOk result ((now : Dirty) → AreSettled dirty now → CoversRead now pages doubt records new)
+
+abbrev pub SyncsHomesRead : {T E : Type 0} → Result T E → Files → Files → Type 0
+SyncsHomesRead result old new = (dirty : Dirty) (pages doubt : List (List ℕ)) (records : List (List ImageData))
+    → CoversRead dirty pages doubt records old → SyncedHomesRead dirty pages doubt records result old new
 
 -- an opening of files that hold these pages
 abbrev pub OpensPagesRead : Log → List ImageData → List (List ImageData) → Files → Files → Type 0

@@ -19,6 +19,7 @@ use Rattle.ori_table.specs.Data.{outcomes_data, CanLay}
 use Rattle.ori_table.specs.Staged.{IsStaged, rows_with}
 use Rattle.ori_table.specs.declared.stage.Staged.{Staged}
 use Rattle.ori_engine.specs.Commits.{CommitsSafely, KeptData, IsSafe}
+use Rattle.ori_engine.specs.Doubts.{entry_in_doubt}
 use Rattle.ori_engine.specs.States.{StaysSafe, Writes}
 use Rattle.ori_engine.proofs.HeldRows.{commit_done, commit_failed, commit_none}
 use Rattle.ori_engine.proofs.StaysSafe.{safe_grown, safe_doubted}
@@ -98,7 +99,8 @@ module _ (kept : KeptData) (session : ℕ) (tx : TxData) (s : Staged) (entry : E
       (sound_after base first old safe) (ap base_with rows_are ∙ made base first old safe) feed marks doubt commits
 
   pub doubted_safe : (new : KeptData) (old now : Story) (why : LogFault) (at : ℕ) → new.rows ≡ kept.rows
-      → new.feed ≡ kept.feed → new.marks ≡ kept.marks → new.halted ≡ Some at → new.doubt ≡ Some entry
+      → new.feed ≡ kept.feed → new.marks ≡ kept.marks → new.halted ≡ Some at
+      → entry_in_doubt new.doubt ≡ Some entry
       → Writes {T = Unit {0}} {E = LogFault} kept.log new.log s.images (Err why) old now → StaysSafe kept new old now
   doubted_safe new old now why at rows_are feed marks halted doubt writes base first safe =
       safe_doubted {T = Unit {0}} {E = LogFault} base first old now kept new entry why at safe going rows_are feed marks

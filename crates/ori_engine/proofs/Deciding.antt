@@ -16,6 +16,8 @@ use Rattle.ori_spec_data.specs.Keeping.{IsAllowed, IsGranted, AreFresh, Decides}
 use Rattle.ori_model.specs.declared.entry.Entry.{Entry}
 use Rattle.ori_model.specs.declared.fault.CommitFault.{CommitFault}
 use Rattle.ori_model.specs.Data.{entry_of, entries_of}
+use Rattle.ori_engine.specs.declared.doubt.Doubt.{Doubt}
+use Rattle.ori_engine.specs.Doubts.{doubt_of, entry_in_doubt}
 use Rattle.ori_rows.specs.Rows.{base_with}
 use Rattle.ori_rows.proofs.Changed.{length_puts}
 use Rattle.ori_table.specs.Data.{outcomes_data}
@@ -107,7 +109,7 @@ accepts old new session tx p opening h room rows feed front room_is halted doubt
     in_use = omega (arith, ap length rows, (h.staged).in_use);
     front = front;
     halted = halted;
-    doubt = ap (option_map entry_of) doubt;
+    doubt = ap (λ (o : Option Doubt). entry_in_doubt (option_map doubt_of o)) doubt;
     opening = refl;
   },
 )

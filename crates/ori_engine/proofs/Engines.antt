@@ -4,36 +4,72 @@ use Rattle.std.proofs.Common.{option_map, IsSome, refl, sym, ap, ◌∙◌, subs
 use Rattle.std.specs.Option.{ForSome}
 use Rattle.ori_bytes.specs.declared.causes.Causes.{Causes}
 use Rattle.ori_volume.specs.Causes.{Rose}
+use Rattle.ori_volume.specs.Disk.{Files}
 use Rattle.ori_volume.specs.Story.{Story, Tells}
-use Rattle.ori_volume.proofs.Known.{tells_map}
-use Rattle.ori_spec_data.specs.Base.{RecordData}
+use Rattle.ori_volume.proofs.Known.{tells_map, tells_then}
+use Rattle.ori_volume.specs.Runs.{EachImage}
+use Rattle.ori_spec_data.specs.Base.{RecordData, BaseData, EntryData}
 use Rattle.ori_spec_data.specs.Views.{are_real}
 use Rattle.ori_spec_data.specs.Keeping.{OpeningData, DecisionData, accepted, halted_at, feed_full, refused}
 use Rattle.ori_spec_data.specs.Keeping.{pages_full, log_full, fault, device, busy, damaged, no_memory, counted}
 use Rattle.ori_rows.specs.Rows.{records_of, AreAt, base_with}
+use Rattle.ori_rows.specs.Stage.{OpensTo}
 use Rattle.ori_table.specs.Kept.{rows_of}
 use Rattle.ori_model.specs.declared.entry.Entry.{Entry}
-use Rattle.ori_model.specs.Data.{entry_of, entries_of}
+use Rattle.ori_model.specs.Data.{entries_of}
+use Rattle.ori_model.specs.Standing.{PastData}
+use Rattle.ori_engine.specs.declared.doubt.Doubt.{Doubt}
 use Rattle.ori_engine.specs.declared.kept.Kept.{Kept}
 use Rattle.ori_engine.specs.Commits.{KeptData}
 use Rattle.ori_engine.specs.KeeperLaws.{entries_length}
-use Rattle.ori_engine.specs.States.{state_of, IsNewlyKept, StaysSafe, HaltsBy, IsInside}
+use Rattle.ori_engine.specs.Doubts.{doubt_of, entry_in_doubt, OpensWith}
+use Rattle.ori_engine.specs.Reopening.{IsKeptSince, LeavesAll, OpensWhole, ReadSince, ReopensSince, StaysRead}
+use Rattle.ori_engine.specs.States.{kept_of, state_of, IsNewlyKept, StaysSafe, HaltsBy, IsInside}
 use Rattle.ori_spec_data.specs.Limits.{FoundData}
 use Rattle.ori_engine.specs.Openings.{IsStartedKept, IsStarted, IsFresh, IsKeptState, SafeSince, Survives}
 
-pub sound_on : (old new : KeptData) (first : Option Story) (a b : Option Story) → Tells (StaysSafe old new) a b
-    → Tells (SafeSince old) first a → Tells (SafeSince new) first b
-sound_on old new None a b told safe =
-    subst (λ (o : Option Story). Tells (StaysSafe old new) o b → b ≡ None) (sym safe) (λ is. is) told
-sound_on old new (Some x) a b told (now, is, safe) =
-    let onward : Tells (StaysSafe old new) (Some now) b = subst (λ (o : Option Story). Tells
-    (StaysSafe old new) o b) is told in
-    (onward.0, onward.1, λ base opens. onward.2 base x (safe base opens))
+pub sound_on : (old new : KeptData) (first : PastData) (files now_files : Option Files) (story now_story : Option Story)
+    → Tells (StaysSafe old new) story now_story → Tells (StaysRead old new) files now_files
+    → IsKeptSince old first files story → IsKeptSince new first now_files now_story
+sound_on old new first files now_files story now_story safe read since = record {
+  safe = tells_then (SafeSince old) (StaysSafe old new) (SafeSince new) first.story story now_story
+      (λ x y z was stays. λ base opens. stays base x (was base opens)) since.safe safe;
+  read = tells_then (ReadSince old) (StaysRead old new) (ReadSince new) first.files files now_files
+      (λ x y z was stays. λ base opens. stays (was base opens)) since.read read;
+}
 
 -- what is safe survives
 pub survives_so : (kept : KeptData) (first now : Option Story) → Tells (SafeSince kept) first now
-    → Tells (Survives kept.feed kept.doubt kept.marks) first now
+    → Tells (Survives kept.feed (entry_in_doubt kept.doubt) kept.marks) first now
 survives_so kept first now safe = tells_map _ _ _ _ (λ x y was safe. λ base opens. (safe base opens).crash) safe
+
+-- and a crash leaves it whole now
+pub leaves_so : (k : Kept) (opening : OpeningData) (first now : Option Story) → Tells (SafeSince (kept_of k)) first now
+    → Tells (LeavesAll (state_of k opening) (entries_of k.feed.items)) first now
+leaves_so k opening first now safe = tells_map _ _ _ _ (λ x y was safe. λ base opens. record {
+  base_is = ap Some (safe base opens).rows_are;
+  images = (safe base opens).whole;
+}) safe
+
+-- the files open to it again
+pub reopens_so : (k : Kept) (opening : OpeningData) (first now : Option Files) → Tells (ReadSince (kept_of k)) first now
+    → Tells (ReopensSince (state_of k opening) (option_map doubt_of k.doubt)) first now
+reopens_so k opening first now read =
+    tells_map _ _ _ _ (λ x y was read. λ base opens. (read base opens).reopens) read
+
+-- all of what is kept first
+whole_first : (kept : KeptData) (base : BaseData) (now : Story) → kept.feed ≡ [] → kept.doubt ≡ None
+    → EachImage (OpensWith base kept.feed (entry_in_doubt kept.doubt)) now.now.disk
+    → EachImage (λ image. OpensTo image base) now.now.disk
+whole_first kept base now feed doubt whole =
+    subst (λ (l : List EntryData). EachImage (OpensWith base l None) now.now.disk) feed
+    (subst (λ (o : Option EntryData). EachImage (OpensWith base kept.feed o) now.now.disk) (ap entry_in_doubt doubt)
+    whole)
+
+pub whole_so : (k : Kept) (first now : Option Story) → IsNewlyKept k → Tells (SafeSince (kept_of k)) first now
+    → Tells OpensWhole first now
+whole_so k first now newly safe = tells_map _ _ _ _ (λ x y was safe. λ base opens. whole_first (kept_of k) base y
+    (ap entries_of newly.feed) (ap (option_map doubt_of) newly.doubt) (safe base opens).whole) safe
 
 -- ---- the state
 
@@ -46,7 +82,7 @@ fresh_so k opening h = record {
   feed = ap (λ (es : List Entry). Some (entries_of es)) h.feed;
   front = ap length h.feed;
   halted = h.halted;
-  doubt = ap (option_map entry_of) h.doubt;
+  doubt = ap (λ (o : Option Doubt). entry_in_doubt (option_map doubt_of o)) h.doubt;
 }
 
 -- records in their places have real identifiers
@@ -55,9 +91,9 @@ real_at p [] h = refl
 real_at p (None ∷ rows) h = real_at (p + 1) rows h
 real_at p (Some r ∷ rows) h = rw (h.0) (real_at (p + 1) rows h.1)
 
-is_there : (o : Option Entry) → IsSome (option_map entry_of o) → IsSome o
+is_there : (o : Option Doubt) → IsSome (entry_in_doubt (option_map doubt_of o)) → IsSome o
 is_there None h = absurd (cc h)
-is_there (Some entry) h = refl
+is_there (Some doubt) h = refl
 
 pub kept_state : (k : Kept) (opening : OpeningData) (causes : Causes) → AreAt 0 (rows_of k.table.0)
     → (causes.device ≡ 0) × (causes.busy ≡ 0) × (causes.damaged ≡ 0) → IsKeptState (state_of k opening) causes

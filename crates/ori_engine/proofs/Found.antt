@@ -20,7 +20,7 @@ use Rattle.ori_log.proofs.Logs.{each_has_tail}
 use Rattle.ori_log.proofs.Making.{logs_empty}
 use Rattle.ori_log.proofs.OneTail.{one_tail}
 use Rattle.ori_log.proofs.Records.{named_append}
-use Rattle.ori_rows.specs.Rows.{records_of, base_with}
+use Rattle.ori_rows.specs.Rows.{records_of, AreAt, base_with}
 use Rattle.ori_rows.proofs.Places.{at_place}
 use Rattle.ori_table.specs.Kept.{rows_of}
 use Rattle.ori_engine.specs.declared.kept.Kept.{Kept}
@@ -79,7 +79,7 @@ no_named ([] ∷ rs) whole none = absurd (omega (arith, (whole.0).some))
 no_named ((i ∷ is) ∷ rs) whole none = absurd (omega (arith, none))
 
 -- where the rows' pages are
-opened_gives : (pages : List (List ℕ)) (rows : Rows) (records : List (List ImageData)) (files : FilesData)
+pub opened_gives : (pages : List (List ℕ)) (rows : Rows) (records : List (List ImageData)) (files : FilesData)
     → pages ≡ pages_of files records → AllByRecursion IsLogRecord records → AreWhole files records
     → IsOpened pages rows → Gives rows records files
 opened_gives [] rows records files is whole homes opened =
@@ -130,10 +130,22 @@ opened_base : (pages : List (List ℕ)) (rows : Rows) → IsOpened pages rows
 opened_base [] rows opened = inl refl
 opened_base (page ∷ pages) rows opened = inr (base_with rows, rows_of_pages (page ∷ pages) rows opened)
 
+-- each has the identifier of its position
+pub opened_at : (pages : List (List ℕ)) (rows : Rows) → IsOpened pages rows → AreAt 0 rows
+opened_at [] rows opened = subst (λ (l : Rows). AreAt 0 l) (sym opened) tt
+opened_at (page ∷ pages) rows opened = opened.at
+
 -- ---- what an attach found
 
+-- the records of a tail are those of a log
+pub tail_whole : (files : FilesData) (rs : List (List ImageData)) → IsTail files rs → AllByRecursion IsLogRecord rs
+tail_whole files rs tail = by_master files.master tail where
+  by_master : (master : List ℕ) → IsTailOf master files rs → AllByRecursion IsLogRecord rs
+  by_master [] none = subst (λ (l : List (List ImageData)). AllByRecursion IsLogRecord l) (sym none) tt
+  by_master (byte ∷ bytes) log = log.4
+
 -- the records are those in the files' tail
-attached_tail : (files : Files) (records : List (List ImageData)) (log : Log) (images : List ImageData)
+pub attached_tail : (files : Files) (records : List (List ImageData)) (log : Log) (images : List ImageData)
     → AttachesTo files records log images → IsTail (files_data files) records
 attached_tail files records log images attaches =
     ⊎_elim (λ (new : IsUnmade (files_data files) × (records ≡ [])). subst (λ (master : List ℕ). IsTailOf master
@@ -142,7 +154,7 @@ attached_tail files records log images attaches =
     attaches.form
 
 -- a volume that was made isn't new
-made_kept : (old new : Files) (records : List (List ImageData)) → IsMade (files_data old) records
+pub made_kept : (old new : Files) (records : List (List ImageData)) → IsMade (files_data old) records
     → IsKeptOrMade old new → new ≡ old
 made_kept old new records made kept =
     ⊎_elim (λ (same : new ≡ old). same)
@@ -156,7 +168,7 @@ still_no_page old new none kept =
     (λ (now : IsNew old × (new ≡ made_files)). ap (λ (f : Files). f.pages) now.1)
     kept
 
-made_files_made : IsMade (files_data made_files) []
+pub made_files_made : IsMade (files_data made_files) []
 made_files_made =
     ⊎_elim (λ (new : IsNew made_files). absurd (omega (arith, ap length new.master)))
     (λ (made : IsMade (files_data made_files) [] × (made_files.pages ≡ [])). made.0)
@@ -295,12 +307,7 @@ module _ (old new : Files) (records : List (List ImageData)) (log : Log) (images
         },
       ))
       (opened_base pages rows opened))
-      attaches.form where
-        tail_whole : (files : FilesData) (rs : List (List ImageData)) → IsTail files rs → AllByRecursion IsLogRecord rs
-        tail_whole files rs tail = by_master files.master tail where
-          by_master : (master : List ℕ) → IsTailOf master files rs → AllByRecursion IsLogRecord rs
-          by_master [] none = subst (λ (l : List (List ImageData)). AllByRecursion IsLogRecord l) (sym none) tt
-          by_master (byte ∷ bytes) log = log.4
+      attaches.form
 
   -- where they stand for no base, the files aren't a database
   pub no_database : IsNoTable pages → IsDatabase (files_data old) → ⊥

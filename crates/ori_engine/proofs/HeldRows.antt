@@ -232,6 +232,15 @@ module _ (log : Log) (rows new : List (Option RecordData)) (before after : BaseD
     held = tt;
   }
 
+-- ---- no commit
+
+-- each image of a volume that holds the rows opens to the base with them
+pub held_whole : (log : Log) (rows : List (Option RecordData)) (base : BaseData) (disk : Disk) → IsSoundBase base
+    → AreAt 0 rows → base_with rows ≡ base → IsHeld log rows disk → EachImage (λ image. OpensTo image base) disk
+held_whole log rows base disk sound at is (records, held) = λ image allowed.
+    image_opens rows base records disk image sound at is (holds_homes log rows records disk held) held.stands allowed
+    (held.tails image allowed)
+
 -- ---- a commit that changes no page
 
 pub commit_none : {F : Type 0} (log : Log) (rows new : List (Option RecordData)) (before after : BaseData) (now : Story)

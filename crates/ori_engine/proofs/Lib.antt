@@ -15,3 +15,6 @@ pub mod Found
 pub mod Starting
 pub mod Written
 pub mod OneBase
+pub mod Reopened
+pub mod Reread
+pub mod OpenedRead

@@ -6,13 +6,17 @@ use Rattle.ori_spec_data.specs.Base.{RecordData, BaseData, initial_base}
 use Rattle.ori_spec_data.specs.Apply.{rid_at}
 use Rattle.ori_spec_data.specs.Records.{record_at}
 use Rattle.ori_spec_data.specs.Soundness.{IsSoundIn, IsSoundBase}
+use Rattle.ori_volume.specs.Disk.{Files}
+use Rattle.ori_spec_data.proofs.HistoryLaws.{initial_sound}
 use Rattle.ori_log.specs.Files.{files_data}
+use Rattle.ori_log.specs.Opening.{made_files}
+use Rattle.ori_log.specs.Attaching.{IsKeptOrMade}
 use Rattle.ori_log.specs.Log.{ImageData, FilesData, IsUnmade, pages_of}
 use Rattle.ori_log.proofs.OneTail.{one_tail}
 use Rattle.ori_rows.specs.Rows.{AreAt}
-use Rattle.ori_rows.specs.Stage.{head_page, IsPageOf, StandFor, StandsMade}
+use Rattle.ori_rows.specs.Stage.{head_page, IsPageOf, StandFor, StandsMade, OpensTo}
 use Rattle.ori_engine.specs.Openings.{OpensToOne}
-use Rattle.ori_engine.proofs.Found.{no_pages, unmade_initial}
+use Rattle.ori_engine.proofs.Found.{made_files_made, no_pages, unmade_initial}
 use Rattle.ori_engine.proofs.SameBase.{found_at, first_next, read_base}
 
 -- ---- the rows of a base
@@ -100,3 +104,19 @@ one_base files base other opens opens_other = by opens.stands opens_other.stands
       let same : others ≡ found = one_tail (files_data files) others found stands.form.tail made.form.tail in
       one_made (files_data files) found base other opens.sound opens_other.sound made.stands
       (subst (λ (l : List (List ImageData)). StandsMade (files_data files) l other) same stands).stands
+
+-- ---- a volume that has just been made
+
+made_initial : (base : BaseData) → OpensTo made_files base → base ≡ initial_base
+made_initial base opens = one_base made_files base initial_base opens (record {
+  sound = initial_sound;
+  stands = inr ([], record { form = made_files_made; stands = inl (refl, refl, refl) });
+})
+
+-- what the files open to that an opening left, they did before it
+pub back_opens : (old new : Files) (base : BaseData) → IsKeptOrMade old new → OpensTo new base → OpensTo old base
+back_opens old new base (inl same) opens = subst (λ (f : Files). OpensTo f base) same opens
+back_opens old new base (inr (unmade, is)) opens = record {
+  sound = opens.sound;
+  stands = inl (unmade, made_initial base (subst (λ (f : Files). OpensTo f base) is opens));
+}

@@ -86,7 +86,8 @@ one_spelling_on page a b whole e f = sym (read_on page a whole e).is ∙ (read_o
 pub none_unspelled : (page spelling : List ℕ) → ((other : List ℕ) → page ≡ record_page other → other ≡ spelling)
     → 0 < length spelling → ((r : RecordData) → Spells spelling r [] → ⊥) → IsRecordPage page → ⊥
 none_unspelled page spelling one some none (inl empty) = omega (arith, some, ap length (one [] empty))
-none_unspelled page spelling one some none (inr w) = none w.1 (subst (λ (b : List ℕ). Spells b w.1 []) (one w.0 w.3) w.2)
+none_unspelled page spelling one some none (inr w) =
+    none w.1 (subst (λ (b : List ℕ). Spells b w.1 []) (one w.0 w.3) w.2)
 
 pub no_bags : (bags : List BagField) → length bags ≡ 0 → bags ≡ []
 no_bags [] e = refl

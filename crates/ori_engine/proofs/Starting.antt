@@ -20,20 +20,24 @@ use Rattle.ori_log.specs.Forms.{Stands, LogStands, PagesStand, BreaksFirst}
 use Rattle.ori_log.specs.Opening.{IsNew}
 use Rattle.ori_log.specs.Attaching.{Attaches, AttachesTo, ListsLast, IsKeptOrMade, IsKeptOrEmpty}
 use Rattle.ori_log.specs.declared.log.Log.{Log}
-use Rattle.ori_model.specs.Data.{entry_of, entries_of}
-use Rattle.ori_rows.specs.Rows.{base_with}
+use Rattle.ori_model.specs.Data.{entries_of}
+use Rattle.ori_rows.specs.Rows.{AreAt, base_with}
 use Rattle.ori_table.specs.Kept.{rows_of}
 use Rattle.ori_engine.specs.declared.fault.StartFault.{StartFault}
 use Rattle.ori_engine.specs.declared.kept.Kept.{Kept}
 use Rattle.ori_engine.specs.Commits.{KeptData, IsSafe}
 use Rattle.ori_spec_crash.specs.Crash.{LeftAt, CrashSafe, doubts}
+use Rattle.ori_engine.specs.Doubts.{doubt_of, entry_in_doubt, OpensWith}
 use Rattle.ori_engine.specs.Holding.{IsHeld}
 use Rattle.ori_spec_data.specs.Limits.{FoundData}
-use Rattle.ori_engine.specs.Openings.{IsFound, Finds, Starts}
+use Rattle.ori_engine.specs.Openings.{IsFound, Finds, SafeSince, Starts}
 use Rattle.ori_engine.specs.Reading.{IsOpened, IsNoTable}
 use Rattle.ori_engine.specs.States.{kept_of, IsNewlyKept}
 use Rattle.ori_engine.proofs.Moments.{left_now, left_run}
-use Rattle.ori_engine.proofs.Found.{kept_opens, opens_held, opened_is, files_kept}
+use Rattle.ori_engine.proofs.Found.{kept_opens, opens_held, opened_at, opened_is, files_kept}
+use Rattle.ori_engine.proofs.HeldRows.{held_whole}
+use Rattle.ori_engine.proofs.OneBase.{back_opens}
+use Rattle.ori_engine.proofs.Safety.{crash_still}
 use Rattle.ori_log.proofs.OneTail.{one_tail}
 
 -- ---- an opening changes no base
@@ -81,43 +85,60 @@ start_fails (Err why) attached old mid new failed attaches reads = λ base opens
 
 -- what is kept first is safe
 first_safe : (base : BaseData) (old new : Story) (log : Log) (kept : KeptData)
-    → CrashSafe OpensTo base [] [] [] old new → IsSoundBase base → base_with kept.rows ≡ base → kept.log ≡ log
-    → IsHeld log kept.rows new.now.disk
+    → CrashSafe OpensTo base [] [] [] old new → IsSoundBase base → AreAt 0 kept.rows → base_with kept.rows ≡ base
+    → kept.log ≡ log → IsHeld log kept.rows new.now.disk
     → kept.feed ≡ [] → kept.marks ≡ [] → kept.doubt ≡ None → IsSafe base old kept new
-first_safe base old new log kept crash sound rows same held feed marks doubt =
-    let crash1 : CrashSafe OpensTo base [] (doubts [] kept.doubt) [] old new = subst (λ
-    (o : Option EntryData). CrashSafe OpensTo base [] (doubts [] o) [] old new) (sym doubt) crash in
-    let crash2 : CrashSafe OpensTo base kept.feed (doubts kept.feed kept.doubt) [] old new = subst (λ
-    (l : List EntryData). CrashSafe OpensTo base l (doubts l kept.doubt) [] old new) (sym feed) crash1 in
-    let none : replay base kept.feed ≡ base = ap (replay base) feed in
+first_safe base old new log kept crash sound at rows same held feed marks doubt =
+    let none : entry_in_doubt kept.doubt ≡ None = ap entry_in_doubt doubt in
+    let replayed : replay base kept.feed ≡ base = ap (replay base) feed in
+    let whole : EachImage (λ image. OpensTo image base) new.now.disk =
+    held_whole log kept.rows base new.now.disk sound at rows held in
+    let crash1 : CrashSafe OpensTo base [] (doubts [] (entry_in_doubt kept.doubt)) [] old new = subst (λ
+    (o : Option EntryData). CrashSafe OpensTo base [] (doubts [] o) [] old new) (sym none) crash in
+    let crash2 : CrashSafe OpensTo base kept.feed (doubts kept.feed (entry_in_doubt kept.doubt)) [] old new = subst (λ
+    (l : List EntryData). CrashSafe OpensTo base l (doubts l (entry_in_doubt kept.doubt)) [] old new) (sym feed)
+    crash1 in
     record {
-      crash = subst (λ (l : List ℕ). CrashSafe OpensTo base kept.feed (doubts kept.feed kept.doubt) l old new)
-          (sym marks) crash2;
-      sound = subst IsSoundBase (sym none) sound;
-      rows_are = rows ∙ sym none;
+      crash = subst (λ (l : List ℕ). CrashSafe OpensTo base kept.feed (doubts kept.feed (entry_in_doubt kept.doubt)) l
+          old new) (sym marks) crash2;
+      whole = subst (λ (o : Option EntryData). EachImage (OpensWith base kept.feed o) new.now.disk) (sym none)
+          (subst (λ (b : BaseData). EachImage (λ image. OpensTo image b) new.now.disk) (sym replayed) whole);
+      sound = subst IsSoundBase (sym replayed) sound;
+      rows_are = rows ∙ sym replayed;
       no_doubt = λ going. doubt;
       held = λ going. subst (λ (l : Log). IsHeld l kept.rows new.now.disk) (sym same) held;
     }
 
-pub starts : {F : Type 0} (k : Kept) (log : Log) (images : List ImageData) (pages : List (List ℕ))
-    (old mid new : Story) → Attaches {E = F} (Ok (log, images)) old mid → Reads mid new
-    → ((records : List (List ImageData)) → ListsLast records images
-    → pages ≡ pages_of (files_data (files_of mid.now.disk)) records) → k.log ≡ log → IsNewlyKept k
-    → length (rows_of k.table.0) < MAX_PAGES
-    → IsOpened pages (rows_of k.table.0) → Starts (Ok k) old new
-starts {F} k log images pages old mid new attaches reads is same fresh few opened = λ base opens.
-    let rows = rows_of k.table.0 in
-    let records = (attaches.attached).0 in
-    let attached = (attaches.attached).1 in
-    let held : IsHeld log rows mid.now.disk =
-    opens_held (files_of old.now.disk) mid.now.disk records log images attached
-    (attaches.attached).2 attaches.firm attaches.reads pages rows (is records attached.lists) opened in
-    first_safe base old new log (kept_of k) (attach_safely {F = F} (Ok
-    (log, images)) base old mid new attaches reads opens) opens.sound
-    (opened_is (files_of old.now.disk) (files_of mid.now.disk) records log images attached attaches.reads pages
-    (is records attached.lists) rows base few opens opened) same
-    (subst (λ (d : Disk). IsHeld log rows d) (sym reads.disk) held) (ap entries_of fresh.feed) fresh.marks (ap
-    (option_map entry_of) fresh.doubt)
+module _ {F : Type 0} (k : Kept) (log : Log) (images : List ImageData) (pages : List (List ℕ)) (old mid new : Story)
+    (attaches : Attaches {E = F} (Ok (log, images)) old mid) (reads : Reads mid new)
+    (is : (records : List (List ImageData)) → ListsLast records images
+    → pages ≡ pages_of (files_data (files_of mid.now.disk)) records) (same : k.log ≡ log) (newly : IsNewlyKept k)
+    (few : length (rows_of k.table.0) < MAX_PAGES) (opened : IsOpened pages (rows_of k.table.0)) where
+  -- since an earlier moment from which on a crash leaves the base alone
+  safe_since : (base : BaseData) (first : Story) → CrashSafe OpensTo base [] [] [] first new
+      → OpensTo (files_of old.now.disk) base → IsSafe base first (kept_of k) new
+  safe_since base first crash opens =
+      let rows = rows_of k.table.0 in
+      let records = (attaches.attached).0 in
+      let attached = (attaches.attached).1 in
+      let held : IsHeld log rows mid.now.disk =
+      opens_held (files_of old.now.disk) mid.now.disk records log images attached
+      (attaches.attached).2 attaches.firm attaches.reads pages rows (is records attached.lists) opened in
+      first_safe base first new log (kept_of k) crash opens.sound (opened_at pages rows opened)
+      (opened_is (files_of old.now.disk) (files_of mid.now.disk) records log images attached attaches.reads pages
+      (is records attached.lists) rows base few opens opened) same
+      (subst (λ (d : Disk). IsHeld log rows d) (sym reads.disk) held) (ap entries_of newly.feed) newly.marks (ap
+      (option_map doubt_of) newly.doubt)
+
+  pub starts : Starts (Ok k) old new
+  starts = λ base opens. safe_since base old
+      (attach_safely {F = F} (Ok (log, images)) base old mid new attaches reads opens) opens
+
+  -- and since the opening's end
+  pub starts_now : SafeSince (kept_of k) new new
+  starts_now = λ base opens. safe_since base new (crash_still base new)
+      (back_opens (files_of old.now.disk) (files_of mid.now.disk) base attaches.reads
+      (subst (λ (d : Disk). OpensTo (files_of d) base) reads.disk opens))
 
 -- ---- what a volume told that may not tell
 

@@ -4,7 +4,9 @@ use Rattle.std.specs.Prelude.{suc, refl}
 use Rattle.std.proofs.Common.{ap, sym, ◌∙◌}
 use Rattle.ori_spec_data.specs.Base.{EntryData}
 use Rattle.ori_model.specs.declared.entry.Entry.{Entry}
-use Rattle.ori_model.specs.Data.{entry_of, entries_of}
+use Rattle.ori_engine.specs.declared.doubt.Doubt.{Doubt}
+use Rattle.ori_engine.specs.Doubts.{doubt_of, entry_in_doubt}
+use Rattle.ori_model.specs.Data.{entries_of}
 
 pub entries_length : (es : List Entry) → length (entries_of es) ≡ length es
 entries_length [] = refl
@@ -23,6 +25,7 @@ is_there None = false
 is_there (Some x) = true
 
 -- an entry in doubt is one of the code's
-pub doubt_is : (doubt : Option Entry) (entry : EntryData) → option_map entry_of doubt ≡ Some entry → IsSome doubt
+pub doubt_is : (doubt : Option Doubt) (entry : EntryData) → entry_in_doubt (option_map doubt_of doubt) ≡ Some entry
+    → IsSome doubt
 doubt_is None entry is = ap is_there is
 doubt_is (Some x) entry is = refl

@@ -1,7 +1,9 @@
 pub mod Holding
+pub mod Doubts
 pub mod Commits
 pub mod States
 pub mod Openings
+pub mod Reopening
 pub mod KeeperLaws
 pub mod Homes
 pub mod Reading

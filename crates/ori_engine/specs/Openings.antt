@@ -7,6 +7,7 @@ use Rattle.ori_volume.specs.Disk.{Files, files_of}
 use Rattle.ori_volume.specs.Story.{Story}
 use Rattle.ori_log.specs.Log.{ImageData, IsTail, room_behind}
 use Rattle.ori_log.specs.Files.{files_data}
+use Rattle.ori_model.specs.Standing.{PastData}
 use Rattle.ori_spec_data.specs.Base.{BaseData, EntryData}
 use Rattle.ori_spec_data.specs.Soundness.{IsSoundBase}
 use Rattle.ori_spec_data.specs.Views.{are_real}
@@ -140,8 +141,8 @@ pub record IsKeptState (state : StateData) (causes : Causes) : Type 0 where
   pub doubted : IsSome state.doubt → IsSome state.halted
   pub inside : (causes.device ≡ 0) × (causes.busy ≡ 0) × (causes.damaged ≡ 0)
 
--- what stays of an engine through each call: what was safe since a first story is so, and the opening is the same
-pub record StaysOpen {R : Type 0} (keeps : R → StateData) (holds : R → Option Story → Type 0)
+-- what stays of an engine through each call: what was sound since an earlier moment is so, and the opening is the same
+pub record StaysOpen {R : Type 0} (keeps : R → StateData) (holds : R → PastData → Type 0)
     (old new : R) : Type 0 where
-  pub sound : (first : Option Story) → holds old first → holds new first
+  pub sound : (first : PastData) → holds old first → holds new first
   pub opening : (keeps new).opening ≡ (keeps old).opening

@@ -1,18 +1,20 @@
 -- What an engine keeps, as plain data, and the state that it stands for.
-use Rattle.std.specs.Prelude.{◌≡◌, ◌⊎◌, ℕ, ◌+◌, ◌<◌, ◌≤◌, List, [], ◌∷◌, ◌++◌, length, Option, Some, None, option_map}
-use Rattle.std.specs.Prelude.{Result, Ok, Err, vec_len, vec_capacity, ⊤}
+use Rattle.std.specs.Prelude.{◌≡◌, ◌⊎◌, ℕ, ◌+◌, ◌-◌, ◌<◌, ◌≤◌, List, [], ◌∷◌, ◌++◌, length, Option, Some, None}
+use Rattle.std.specs.Prelude.{option_map, Result, Ok, Err, vec_len, vec_capacity, ⊤}
 use Rattle.ori_bytes.specs.declared.limits.TheConstants.{MAX_FEED_ENTRIES, MAX_FEED_BYTES}
 use Rattle.ori_volume.specs.Causes.{Rose}
+use Rattle.ori_volume.specs.Disk.{Files}
 use Rattle.ori_volume.specs.Story.{Story}
 use Rattle.ori_spec_data.specs.Base.{BaseData, TxData, AskedData, asks_commit}
 use Rattle.ori_spec_data.specs.Asked.{fresh_by, entry_on}
 use Rattle.ori_spec_data.specs.Keeping.{OpeningData, StateData, DecisionData, fault, device, busy, damaged, bytes_with}
 use Rattle.ori_spec_data.specs.Keeping.{Decides}
 use Rattle.ori_log.specs.Log.{ImageData}
-use Rattle.ori_log.specs.Appending.{Appends}
+use Rattle.ori_log.specs.Appending.{need_of, Appends, AppendsFiles}
 use Rattle.ori_log.specs.declared.log.Log.{Log}
 use Rattle.ori_model.specs.declared.fault.CommitFault.{CommitFault}
 use Rattle.ori_model.specs.Data.{entry_of, entries_of}
+use Rattle.ori_engine.specs.Doubts.{doubt_of, entry_in_doubt}
 use Rattle.ori_rows.specs.Rows.{base_with}
 use Rattle.ori_table.specs.Kept.{rows_of}
 use Rattle.ori_table.specs.Staged.{IsStaged}
@@ -25,10 +27,11 @@ abbrev pub kept_of : Kept → KeptData
 kept_of k = record {
   rows = rows_of k.table.0;
   log = k.log;
+  room = k.room;
   feed = entries_of k.feed.items;
   marks = k.marks.items;
   halted = k.halted;
-  doubt = option_map entry_of k.doubt;
+  doubt = option_map doubt_of k.doubt;
 }
 
 abbrev pub state_of : Kept → OpeningData → StateData
@@ -39,7 +42,7 @@ state_of k opening = record {
   limit = Some k.room;
   front = length k.feed.items;
   halted = k.halted;
-  doubt = option_map entry_of k.doubt;
+  doubt = entry_in_doubt (option_map doubt_of k.doubt);
   opening = opening;
 }
 
@@ -106,3 +109,15 @@ pub record Refuses (k : Kept) (session : ℕ) (asked : AskedData) (why : CommitF
 abbrev pub Writes : {T E : Type 0} → Log → Log → List ImageData → Result T E → Story → Story → Type 0
 Writes old_log new_log [] result old new = (new_log ≡ old_log) × (new ≡ old)
 Writes old_log new_log (image ∷ images) result old new = Appends old_log new_log (image ∷ images) result old new
+
+-- the same of the bytes alone
+abbrev pub WritesFiles : {T E : Type 0} → Log → Log → List ImageData → Result T E → Files → Files → Type 0
+WritesFiles old_log new_log [] result old new = (new_log ≡ old_log) × (new ≡ old)
+WritesFiles old_log new_log (image ∷ images) result old new =
+    AppendsFiles old_log new_log (image ∷ images) result old new
+
+-- the log has one record more, or is as it was where there was none
+abbrev pub Grows : Log → Log → List ImageData → Type 0
+Grows old new [] = new ≡ old
+Grows old new (image ∷ images) =
+    (new.tail ≡ old.tail + 1) × (new.place ≡ old.place + (need_of (image ∷ images) - 1)) × (new.file ≡ old.file)

@@ -3,7 +3,8 @@ ghost use Rattle.std.specs.Prelude.{◌≡◌, ◌+◌, ◌<◌, ◌≤◌, ◌�
 ghost use Rattle.std.specs.Prelude.{Some, IsTrue, IsSome, IfOk, IfErr, OnOk, IfSome};
 ghost use Rattle.std.specs.Option.{ForSome};
 ghost use Rattle.ori_volume.specs.Causes.{Rose};
-ghost use Rattle.ori_volume.specs.Story.{Story, Tells};
+ghost use Rattle.ori_volume.specs.Story.{Tells};
+ghost use Rattle.ori_model.specs.Standing.{PastData};
 ghost use Rattle.ori_spec_data.specs.Base.{initial_base};
 ghost use Rattle.ori_spec_data.specs.Limits.{FoundData};
 ghost use Rattle.ori_rows.specs.Stage.{IsDatabase};
@@ -13,10 +14,10 @@ ghost use Rattle.ori_rows.specs.Rows.{base_with};
 ghost use Rattle.ori_table.specs.Kept.{rows_of};
 ghost use Rattle.ori_decide.specs.Told.{told};
 
-use crate::StartFault;
 use crate::kept::Kept;
 use crate::opened::Opened;
 use crate::opening::open_kept;
+use crate::{Doubt, StartFault};
 use ori_bytes::{Causes, NumberList, Rid};
 use ori_model::{
     CommitFault, Done, Entry, EntryList, Keeper, ReadFault, Reader, Schema, Stored, Tx,
@@ -51,18 +52,20 @@ pub struct Unopened<V: Volume> {
 }
 
 /// What is left of an engine at its end: the volume, the entries since the opening with the moments at which they were
-/// acknowledged, and the entry whose write failed.
+/// acknowledged, and the entry in doubt.
 #[derive(Drop)]
 pub struct Ended<V: Volume> {
     pub volume: V,
     pub feed: EntryList,
     pub marks: NumberList,
-    pub doubt: Option<Entry>,
+    pub doubt: Option<Doubt>,
 }
 
 impl<V: Volume> Engine<V> {
     ghost use Rattle.std.specs.Prelude.{Option, option_map};
-    ghost use Rattle.ori_model.specs.Data.{entry_of, entries_of};
+    ghost use Rattle.ori_model.specs.Data.{entries_of};
+    ghost use Rattle.ori_engine.specs.Doubts.{doubt_of, entry_in_doubt};
+    ghost use Rattle.ori_engine.specs.Reopening.{HasTailOf, ReopensSince, LeavesAll, OpensWhole, told_now};
     ghost use Rattle.ori_engine.specs.Openings.{Finds, IsStarted, IsFresh, LeavesBase, Survives, IsOpenedSince};
     ghost use Rattle.ori_engine.specs.Openings.{IsOpenedAt, no_causes, IsKeptState, IsCounted};
 
@@ -73,6 +76,7 @@ impl<V: Volume> Engine<V> {
     pub fn start(alloc: Global, volume: V) -> Result<Engine<V>, Unopened<V>>
         ensures found { IfOk result (λ e. (found : FoundData) → Finds (V.files volume) found
             → IsStarted found (⟦<Engine<V> as Reader>⟧.state e)) }
+        ensures tail { IfOk result (λ e. IfSome (V.files volume) (λ fs. HasTailOf fs e.kept.log.tail)) }
         ensures fresh { IfOk result (λ e. IsFresh (⟦<Engine<V> as Reader>⟧.state e)) }
         ensures unmarked { IfOk result (λ e. e.kept.marks.items ≡ []) }
         ensures database { OnOk result (IfSome (V.files volume) (λ fs. IsDatabase (files_data fs))) }
@@ -80,7 +84,11 @@ impl<V: Volume> Engine<V> {
             → IfSome (V.files volume) (λ fs. IsDatabase (files_data fs) → ⊥)) }
         ensures refused { IfErr result (λ u. u.fault ≡ StartFault.NotADatabase
             → V.files u.volume ≡ V.files volume) }
-        ensures sound { IfOk result (λ e. ⟦<Engine<V> as Reader>⟧.sound e (V.story volume)) }
+        ensures sound { IfOk result (λ e. ⟦<Engine<V> as Reader>⟧.sound e (told_now (V.files volume)
+            (V.story volume))) }
+        ensures since_end { IfOk result (λ e. ⟦<Engine<V> as Reader>⟧.sound e (told_now (V.files e.volume)
+            (V.story e.volume))) }
+        ensures whole { IfOk result (λ e. Tells OpensWhole (V.story volume) (V.story e.volume)) }
         ensures left { IfErr result (λ u. Tells LeavesBase (V.story volume) (V.story u.volume)) }
         ensures since { IfOk result (λ e. IsOpenedSince (V.faults volume) (V.log_faults volume)
             (⟦<Engine<V> as Reader>⟧.state e).opening) }
@@ -150,20 +158,58 @@ impl<V: Volume> Engine<V> {
         self.kept.feed.as_slice()
     }
 
+    /// The moments at which they were acknowledged.
+    pub fn marks(&self) -> &[u64]
+        ensures { result.now ≡ self.now.kept.marks.items }
+    {
+        self.kept.marks.as_slice()
+    }
+
+    /// The number of records in the log's tail; behind a failed write it says nothing.
+    pub fn tail(&self) -> u64
+        ensures { result ≡ self.now.kept.log.tail }
+    {
+        self.kept.log.tail()
+    }
+
+    /// The volume's moment when the opening ended.
+    pub fn opened(&self) -> u64
+        ensures { result ≡ (⟦<Engine<V> as Reader>⟧.state self.now).opening.moment }
+    {
+        self.opened.moment
+    }
+
+    /// The entry whose append failed.
+    pub fn doubt(&self) -> Option<&Doubt>
+        ensures { (⟦<Engine<V> as Reader>⟧.state self.now).doubt
+            ≡ entry_in_doubt (option_map (λ d. doubt_of d.now) result) }
+    {
+        self.kept.doubt.as_ref()
+    }
+
     /// Gives the volume back, and what was kept. Commits have ended exactly where a write, cut or sync of the log has
     /// failed since the opening, and Fault was answered only where a call failed and they have. Since any moment for
     /// which the engine is sound a crash leaves a prefix of the feed with each entry that has its mark by then, or all
-    /// of it and the entry in doubt.
+    /// of it and the entry in doubt; now it leaves all of it, or that. The files as they read open to the state's base,
+    /// or to that with the entry in doubt: the number of records in their tail tells which.
     pub fn end(self) -> Ended<V>
         ensures volume { result.volume ≡ self.volume }
         ensures marks { result.marks ≡ self.kept.marks.items }
+        ensures one_each { length result.marks ≡ length result.feed }
         ensures feed { (⟦<Engine<V> as Reader>⟧.state self).feed ≡ Some (entries_of result.feed) }
-        ensures doubt { (⟦<Engine<V> as Reader>⟧.state self).doubt ≡ option_map entry_of result.doubt }
+        ensures doubt { (⟦<Engine<V> as Reader>⟧.state self).doubt
+            ≡ entry_in_doubt (option_map doubt_of result.doubt) }
         ensures counts { IsCounted (⟦<Engine<V> as Reader>⟧.state self) (⟦<Engine<V> as Reader>⟧.causes self)
             (V.faults result.volume) (V.log_faults result.volume) }
-        ensures crash { (first : Option Story) → ⟦<Engine<V> as Reader>⟧.sound self first
-            → Tells (Survives (entries_of result.feed) (option_map entry_of result.doubt) result.marks) first
+        ensures crash { (first : PastData) → ⟦<Engine<V> as Reader>⟧.sound self first
+            → Tells (Survives (entries_of result.feed) (entry_in_doubt (option_map doubt_of result.doubt))
+            result.marks) first.story (V.story result.volume) }
+        ensures now { (first : PastData) → ⟦<Engine<V> as Reader>⟧.sound self first
+            → Tells (LeavesAll (⟦<Engine<V> as Reader>⟧.state self) (entries_of result.feed)) first.story
             (V.story result.volume) }
+        ensures reads { (first : PastData) → ⟦<Engine<V> as Reader>⟧.sound self first
+            → Tells (ReopensSince (⟦<Engine<V> as Reader>⟧.state self) (option_map doubt_of result.doubt))
+            first.files (V.files result.volume) }
     {
         let Engine { volume, kept, .. } = self;
         let Kept {
@@ -228,7 +274,8 @@ impl<V: Volume> Reader for Engine<V> {
     ghost use Rattle.std.specs.Prelude.{Some};
     ghost use Rattle.ori_spec_data.specs.Views.{view_of, nothing_below};
     ghost use Rattle.ori_engine.specs.States.{kept_of, state_of};
-    ghost use Rattle.ori_engine.specs.Openings.{opening_of, SafeSince};
+    ghost use Rattle.ori_engine.specs.Openings.{opening_of};
+    ghost use Rattle.ori_engine.specs.Reopening.{IsKeptSince};
 
     ghost view = { λ e. Some (view_of (base_with (rows_of e.kept.table.0))) };
 
@@ -238,7 +285,7 @@ impl<V: Volume> Reader for Engine<V> {
 
     ghost below = { λ e. nothing_below };
 
-    ghost sound = { λ e first. Tells (SafeSince (kept_of e.kept)) first (V.story e.volume) };
+    ghost sound = { λ e first. IsKeptSince (kept_of e.kept) first (V.files e.volume) (V.story e.volume) };
 
     ghost fetched = { λ e. e.fetched };
 

@@ -5,6 +5,7 @@ ghost use Rattle.ori_spec_data.specs.Weighing.{feed_bytes};
 ghost use Rattle.ori_log.specs.Appending.{room_of};
 ghost use Rattle.ori_model.specs.Data.{entries_of};
 
+use crate::Doubt;
 use crate::prepared::Prepared;
 use crate::sizes::bytes_behind;
 use crate::writing::write_images;
@@ -17,7 +18,7 @@ use ori_volume::Volume;
 use std::alloc::Global;
 
 /// The rows, the log, the entries since the opening with their bytes and the moments at which they were acknowledged,
-/// the count of faults at which commits ended, and the entry whose write failed.
+/// the count of faults at which commits ended, and the entry in doubt.
 #[derive(Drop)]
 pub(crate) struct Kept {
     pub table: Table,
@@ -28,7 +29,8 @@ pub(crate) struct Kept {
     pub bytes: u64,
     pub marks: Vec<u64>,
     pub halted: Option<u64>,
-    pub doubt: Option<Entry>,
+    pub doubt: Option<Doubt>,
+    ghost one_each: { length marks.items ≡ length feed.items },
     ghost counted: { bytes ≡ feed_bytes (entries_of feed.items) },
     ghost doubts: { IsSome doubt → IsSome halted },
     ghost roomy: { halted ≡ None → room ≡ room_of log },
@@ -50,6 +52,7 @@ impl Kept {
     ghost use Rattle.ori_table.specs.Staged.{IsStaged};
     ghost use Rattle.ori_engine.specs.States.{kept_of, state_of, IsNewlyKept, IsAskedOf, IsPrepared, HasRoom};
     ghost use Rattle.ori_engine.specs.States.{Refuses, StaysSafe, HaltsBy, IsMarked, IsInside};
+    ghost use Rattle.ori_engine.specs.Reopening.{StaysRead};
 
     /// What is kept of a volume whose log was attached and whose rows were read: nothing has been committed.
     pub(crate) fn begin(alloc: Global, table: Table, log: Log) -> Kept
@@ -183,6 +186,8 @@ impl Kept {
             (asks_commit (tx_of tx.now)) (decision_of result) (state_of self.new opening) }
         ensures crash { Tells (StaysSafe (kept_of self.old) (kept_of self.new)) (V.story volume.old)
             (V.story volume.new) }
+        ensures reads { Tells (StaysRead (kept_of self.old) (kept_of self.new)) (V.files volume.old)
+            (V.files volume.new) }
         ensures marked { IsMarked self.old.marks.items self.new.marks.items (V.moment volume.new) result }
         ensures faults { V.faults volume.old ≤ V.faults volume.new }
         ensures log_faults { V.log_faults volume.old ≤ V.log_faults volume.new }
@@ -206,12 +211,13 @@ impl Kept {
         } = staged;
         self.table.keeps();
         let place = self.feed.len() as u64;
+        let tail = self.log.tail() + 1;
         if let Err(fault) = write_images(&mut self.log, volume, &images) {
             if let LogFault::LogFull { need, room } = fault {
                 return Err(CommitFault::LogFull { need, room });
             }
             self.halted = Some(volume.faults());
-            self.doubt = Some(entry);
+            self.doubt = Some(Doubt { tail, entry });
             return Err(CommitFault::Fault);
         }
         self.room = self.log.room();
@@ -235,6 +241,8 @@ impl Kept {
             (asks_commit (tx_of tx.now)) (decision_of result) (state_of self.new opening) }
         ensures crash { Tells (StaysSafe (kept_of self.old) (kept_of self.new)) (V.story volume.old)
             (V.story volume.new) }
+        ensures reads { Tells (StaysRead (kept_of self.old) (kept_of self.new)) (V.files volume.old)
+            (V.files volume.new) }
         ensures marked { IsMarked self.old.marks.items self.new.marks.items (V.moment volume.new) result }
         ensures faults { V.faults volume.old ≤ V.faults volume.new }
         ensures log_faults { V.log_faults volume.old ≤ V.log_faults volume.new }

@@ -12,7 +12,8 @@ ghost use Rattle.ori_log.specs.Attaching.{ListsLast};
 ghost use Rattle.ori_log.specs.Images.{image_data};
 ghost use Rattle.ori_log.specs.Appending.{FailsAs};
 ghost use Rattle.ori_engine.specs.Homes.{with_homes, with_image};
-ghost use Rattle.ori_engine.specs.States.{IsNewlyKept};
+ghost use Rattle.ori_engine.specs.States.{kept_of, IsNewlyKept};
+ghost use Rattle.ori_engine.specs.Reopening.{HasTailOf, ReadSince, IsKeptSince, told_now};
 ghost use Rattle.ori_engine.specs.Openings.{Finds, IsStartedKept, Starts};
 
 use crate::StartFault;
@@ -123,12 +124,16 @@ fn start_fault(fault: LogFault) -> StartFault
 pub(crate) fn open_kept<V: Volume>(alloc: Global, volume: &mut V) -> Result<Kept, StartFault>
     ensures found { IfOk result (λ k. (found : FoundData) → Finds (V.files volume.old) found
         → IsStartedKept found k) }
+    ensures tail { IfOk result (λ k. IfSome (V.files volume.old) (λ fs. HasTailOf fs k.log.tail)) }
+    ensures read { IfOk result (λ k. Tells (ReadSince (kept_of k)) (V.files volume.old) (V.files volume.new)) }
     ensures fresh { IfOk result IsNewlyKept }
     ensures database { OnOk result (IfSome (V.files volume.old) (λ fs. IsDatabase (files_data fs))) }
     ensures not_a_database { IsErrOf result StartFault.NotADatabase
         → IfSome (V.files volume.old) (λ fs. IsDatabase (files_data fs) → ⊥) }
     ensures refused { IsErrOf result StartFault.NotADatabase → V.files volume.new ≡ V.files volume.old }
     ensures crash { Tells (Starts result) (V.story volume.old) (V.story volume.new) }
+    ensures since_end { IfOk result (λ k. IsKeptSince (kept_of k) (told_now (V.files volume.new) (V.story volume.new))
+        (V.files volume.new) (V.story volume.new)) }
     ensures faults { FailsAs StartFault.Fault (V.faults volume.old) (V.faults volume.new) result }
     ensures log_faults { V.log_faults volume.old ≤ V.log_faults volume.new }
     ensures log_fine { OnOk result (V.log_faults volume.new ≡ V.log_faults volume.old) }

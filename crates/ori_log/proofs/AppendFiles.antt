@@ -96,7 +96,7 @@ module _ (log new_log : Log) (images : List ImageData) where
   pub append_full : (result : Result (Unit {0}) LogFault) (files : Files) → IsErr result
       → AppendsFiles log new_log images result files files
   append_full result files failed = appends_err log new_log images result files files failed
-      (λ stands. record { only = sym (with_of files log.file); either = inl refl })
+      (λ stands. record { only = sym (with_of files log.file); short = omega arith; either = inl refl })
 
   pub append_body_fails : (fill : ℕ) (fault : Failed) (result : Result (Unit {0}) LogFault) (old new : Files)
       → IsErr result → WritesBodyFiles {T = Unit {0}} {E = Failed} log.file log.place images fill (Err fault) old new
@@ -104,7 +104,7 @@ module _ (log new_log : Log) (images : List ImageData) where
   append_body_fails fill fault result old new failed writes =
       appends_err log new_log images result old new failed (λ stands.
       let body = writes stands.within in
-      record { only = body.behind.only; either = inl body.behind.same })
+      record { only = body.behind.only; short = body.behind.short; either = inl body.behind.same })
 
   -- both change the log's file alone
   both_alone : (a b c : Files) → b ≡ with_file a log.file (of_file b log.file)
@@ -123,6 +123,7 @@ module _ (log new_log : Log) (images : List ImageData) where
       let body = writes stands.within in
       record {
         only = both_alone a b c body.behind.only gate.torn.elsewhere;
+        short = omega (arith, body.behind.short, gate.torn.here.no_longer, log.within);
         either = inr (subst (λ (l : List ℕ). TornBytes log.place 1 l (of_file c log.file))
             (body.reads ∙ ap (λ (n : ℕ). put (of_file a log.file) (log.place + 1) (behind_gate images ++ replicate n 0))
             is) gate.torn.here);

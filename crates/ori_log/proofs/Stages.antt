@@ -159,7 +159,8 @@ abbrev pub FilesOk : FileNo → Stage → Stage → List ℕ → Files → Files
 FilesOk file s0 s1 bytes old new = StagesFiles {T = Unit {0}} {E = Failed} file s0 s1 bytes (Ok tt) old new
 
 files_still : (file : FileNo) (low : ℕ) (files : Files) → FilesBehind file low files files
-files_still file low files = record { only = sym (with_of files file); same = refl; long = omega arith }
+files_still file low files =
+    record { only = sym (with_of files file); same = refl; long = omega arith; short = omega arith }
 
 files_on : (file : FileNo) (low : ℕ) (a b c : Files) → FilesBehind file low a b → FilesBehind file low b c
     → FilesBehind file low a c
@@ -168,6 +169,7 @@ files_on file low a b c first second = record {
       ∙ with_twice a file (of_file b file) (of_file c file);
   same = second.same ∙ first.same;
   long = omega (arith, first.long, second.long);
+  short = omega (arith, first.short, second.short);
 }
 
 module _ (file : FileNo) where

@@ -1,5 +1,6 @@
 -- What a switch does to the bytes of the files.
-use Rattle.std.proofs.Common.{◌≡◌, inl, inr, ℕ, ◌+◌, ◌%◌, ◌^◌, true≢false, List, [], ◌∷◌, Result, Ok, Err, refl}
+use Rattle.std.proofs.Common.{◌≡◌, ◌≤◌, inl, inr, ⊎_elim, ℕ, ◌+◌, ◌%◌, ◌^◌, max, true≢false, List, [], ◌∷◌, Result}
+use Rattle.std.proofs.Common.{Ok, Err, refl, take, length-take}
 use Rattle.std.proofs.Common.{sym, ◌∙◌, ap, ap₂, subst, length, slice_index, arith}
 use Rattle.std.specs.Result.{IsErr}
 use Rattle.ori_bytes.specs.declared.limits.TheConstants.{CLOSED_GATE}
@@ -13,7 +14,7 @@ use Rattle.ori_volume.proofs.Lasting.{written_torn}
 use Rattle.ori_log.specs.Files.{other_log, file_named}
 use Rattle.ori_log.specs.Appending.{StandsIn}
 use Rattle.ori_log.specs.declared.log.Log.{Log}
-use Rattle.ori_log.specs.Switching.{switched_files, SwitchesFiles, ClearsFiles, MasterTorn, SetsFiles}
+use Rattle.ori_log.specs.Switching.{switched_files, SwitchesFiles, ClearCutShort, ClearsFiles, MasterTorn, SetsFiles}
 use Rattle.ori_log.specs.declared.fault.LogFault.{LogFault}
 use Rattle.ori_log.proofs.Behind.{with_twice}
 use Rattle.ori_log.proofs.Puts.{length-put}
@@ -30,19 +31,27 @@ elsewhere_then file B D a b c first second =
 -- ---- the other log
 
 clears_err : {T E : Type 0} (file : FileNo) (result : Result T E) (a b : Files) → IsErr result
-    → b ≡ with_file a file (of_file b file) → ClearsFiles file result a b
+    → ClearCutShort file a b → ClearsFiles file result a b
 clears_err file (Ok _) a b failed is = absurd (true≢false (sym failed))
 clears_err file (Err _) a b failed is = is
 
 pub clears_cut : (file : FileNo) (fault : Failed) (result : Result (Unit {0}) Failed) (a b : Files) → IsErr result
     → FilesCut {T = Unit {0}} {E = Failed} file 0 (Err fault) a b → ClearsFiles file result a b
-clears_cut file fault result a b failed cut = clears_err file result a b failed cut.elsewhere
+clears_cut file fault result a b failed cut = clears_err file result a b failed (record {
+  only = cut.elsewhere;
+  short = ⊎_elim (λ (same : of_file b file ≡ of_file a file). omega (arith, ap length same))
+      (λ (none : of_file b file ≡ take 0 (of_file a file)).
+      omega (arith, ap length none, length-take 0 (of_file a file)))
+      cut.here;
+})
 
 pub clears_write : (file : FileNo) (fault : Failed) (result : Result (Unit {0}) Failed) (a b c : Files) → IsErr result
     → FilesCut {T = Unit {0}} {E = Failed} file 0 (Ok tt) a b
     → FilesWrite {T = Unit {0}} {E = Failed} file 0 (CLOSED_GATE ∷ []) (Err fault) b c → ClearsFiles file result a c
-clears_write file fault result a b c failed cut writes =
-    clears_err file result a c failed (elsewhere_then file _ _ a b c cut writes)
+clears_write file fault result a b c failed cut writes = clears_err file result a c failed (record {
+  only = elsewhere_then file _ _ a b c cut writes;
+  short = omega (arith, writes.here.no_longer, ap length cut.here, length-take 0 (of_file a file));
+})
 
 pub clears_all : (file : FileNo) (result : Result (Unit {0}) Failed) (a b c : Files)
     → FilesCut {T = Unit {0}} {E = Failed} file 0 (Ok tt) a b
@@ -51,7 +60,16 @@ clears_all file (Ok _) a b c cut writes =
     elsewhere_then file _ _ a b c cut writes
     ∙ ap (λ (l : List ℕ). with_file a file l)
     (writes.here ∙ ap (λ (l : List ℕ). put l 0 (CLOSED_GATE ∷ [])) cut.here ∙ one_byte (of_file a file) CLOSED_GATE)
-clears_all file (Err _) a b c cut writes = elsewhere_then file _ _ a b c cut writes
+clears_all file (Err _) a b c cut writes = record {
+  only = elsewhere_then file _ _ a b c cut writes;
+  short = omega (
+    arith,
+    ap length writes.here,
+    length-put (of_file b file) (CLOSED_GATE ∷ []) 0 (omega arith),
+    ap length cut.here,
+    length-take 0 (of_file a file),
+  );
+}
 
 -- ---- the master
 
@@ -93,9 +111,10 @@ module _ (log new_log : Log) (which : FileNo) (which_is : which ≡ other_log lo
       → ClearsFiles {T = Unit {0}} {E = Failed} which (Err fault) a b → SwitchesFiles log new_log result a b
   switches_early fault (Ok _) a b failed clears = absurd (true≢false (sym failed))
   switches_early fault (Err _) a b failed clears = record {
-    only = other_alone a b clears;
+    only = other_alone a b clears.only;
+    short = subst (λ (f : FileNo). length (of_file b f) ≤ max (length (of_file a f)) 1) which_is clears.short;
     either = inl (ap (λ (f : Files). f.master)
-        (clears ∙ ap (λ (f : FileNo). with_file a f (of_file b f)) which_is)
+        (clears.only ∙ ap (λ (f : FileNo). with_file a f (of_file b f)) which_is)
         ∙ other_master file a (of_file b (other_log file)));
   }
 
@@ -118,6 +137,7 @@ module _ (log new_log : Log) (which : FileNo) (which_is : which ≡ other_log lo
       ∙ other_here file a (CLOSED_GATE ∷ []) in
       record {
         only = only ∙ ap (λ (l : List ℕ). with_file (with_file a (other_log file) l) Master c.master) (sym fresh);
+        short = omega (arith, ap length fresh);
         either = inr (
           fresh,
           subst (λ (l : List ℕ). TornBytes 0 1 l c.master)

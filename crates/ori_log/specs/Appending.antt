@@ -97,10 +97,11 @@ pub record StandsIn (log : Log) (files : Files) : Type 0 where
   pub long : log.length ≡ length (of_file files log.file)
   pub within : log.place < length (of_file files log.file)
 
--- Where an append failed, only the log's file has changed: it is as it was up to the gate, or the record stands behind
--- that, and the write of the gate was tried.
+-- Where an append failed, only the log's file has changed, which is at most as long as it may be where it was no
+-- longer: it is as it was up to the gate, or the record stands behind that, and the write of the gate was tried.
 pub record AppendCutShort (log : Log) (images : List ImageData) (old new : Files) : Type 0 where
   pub only : new ≡ with_file old log.file (of_file new log.file)
+  pub short : length (of_file new log.file) ≤ max (length (of_file old log.file)) MAX_LOG_BYTES
   pub either : (take (log.place + 1) (of_file new log.file) ≡ take (log.place + 1) (of_file old log.file))
       ⊎ TornBytes log.place 1 (put (of_file old log.file) (log.place + 1) (behind_gate images
       ++ replicate (zeros_behind log.length (log.place + 1 + length (behind_gate images))) 0)) (of_file new log.file)

@@ -1,5 +1,5 @@
 -- Bytes on their way to a file through a buffer.
-use Rattle.std.specs.Prelude.{◌≡◌, ℕ, ◌+◌, ◌≤◌, List, length, take, Result, OnOk}
+use Rattle.std.specs.Prelude.{◌≡◌, ℕ, ◌+◌, ◌≤◌, max, List, length, take, Result, OnOk}
 use Rattle.ori_bytes.specs.declared.limits.TheConstants.{MAX_LOG_BYTES}
 use Rattle.ori_volume.specs.declared.file.FileNo.{FileNo}
 use Rattle.ori_volume.specs.Disk.{of_file, with_file, Files}
@@ -49,11 +49,13 @@ Stages file old_stage new_stage bytes result old new =
 abbrev pub file_bytes : FileNo → Files → List ℕ
 file_bytes file files = of_file files file
 
--- no other file has changed, and this one is no shorter, and as it was below that place
+-- No other file has changed, and this one is as it was below that place, no shorter, and at most as long as a log file
+-- may be where it was no longer.
 pub record FilesBehind (file : FileNo) (low : ℕ) (old new : Files) : Type 0 where
   pub only : new ≡ with_file old file (of_file new file)
   pub same : take low (of_file new file) ≡ take low (of_file old file)
   pub long : length (of_file old file) ≤ length (of_file new file)
+  pub short : length (of_file new file) ≤ max (length (of_file old file)) MAX_LOG_BYTES
 
 abbrev pub StagesFiles : {T E : Type 0} → FileNo → Stage → Stage → List ℕ → Result T E → Files → Files → Type 0
 StagesFiles file old_stage new_stage bytes result old new =

@@ -58,10 +58,11 @@ switched_files file byte files =
     with_file (with_file files (other_log file) (CLOSED_GATE ∷ [])) Master
     (put files.master 0 ((byte + 1) % 2 ^ 8 ∷ []))
 
--- Where a switch failed, only the other log has changed; or that is a closed gate, and the write of the master's byte
--- was tried.
+-- Where a switch failed, only the other log has changed, and is at most a byte long where it was no longer; or that is
+-- a closed gate, and the write of the master's byte was tried.
 pub record CutShort (file : FileNo) (old new : Files) : Type 0 where
   pub only : new ≡ with_file (with_file old (other_log file) (of_file new (other_log file))) Master new.master
+  pub short : length (of_file new (other_log file)) ≤ max (length (of_file old (other_log file))) 1
   pub either : (new.master ≡ old.master)
       ⊎ ((of_file new (other_log file) ≡ CLOSED_GATE ∷ []) × TornBytes 0 1 old.master new.master)
 
@@ -93,10 +94,15 @@ pub record SetMaster {T E : Type 0} (byte : ℕ) (result : Result T E) (old new 
   pub done : OnOk result (new.now.disk ≡ with_file old.now.disk Master
       (firm_file (put old.now.disk.master.bytes 0 (byte ∷ []))))
 
--- the same of the bytes
+-- the same of the bytes: where it failed, no other file has changed, and this one is at most a byte long where it was
+-- no longer
+pub record ClearCutShort (file : FileNo) (old new : Files) : Type 0 where
+  pub only : new ≡ with_file old file (of_file new file)
+  pub short : length (of_file new file) ≤ max (length (of_file old file)) 1
+
 abbrev pub ClearsFiles : {T E : Type 0} → FileNo → Result T E → Files → Files → Type 0
 ClearsFiles file (Ok _) old new = new ≡ with_file old file (CLOSED_GATE ∷ [])
-ClearsFiles file (Err _) old new = new ≡ with_file old file (of_file new file)
+ClearsFiles file (Err _) old new = ClearCutShort file old new
 
 pub record MasterTorn (old new : Files) : Type 0 where
   pub only : new ≡ with_file old Master new.master

@@ -8,6 +8,7 @@ ghost use Rattle.ori_log.specs.Log.{ImageData};
 ghost use Rattle.ori_log.specs.Appending.{FailsAs, StandsIn};
 ghost use Rattle.ori_log.specs.Attaching.{AttachesTo, AttachesMade, Attaches, AttachesFirm, IsKeptOrMade};
 ghost use Rattle.ori_log.specs.Forms.{BreaksFirst};
+ghost use Rattle.ori_log.specs.Images.{AreRising};
 ghost use Rattle.ori_log.specs.Measures.{Measures};
 
 use crate::form::{named_by, read_made, read_master};
@@ -32,6 +33,7 @@ fn attach_new<V: Volume>(
     ensures stands { IfOk result (λ pair. IfSome (V.files volume.new) (λ fs. StandsIn pair.0 fs)) }
     ensures not_a_log { (file : FileNo) → IsErrOf result (LogFault.NotALog file)
         → IfSome (V.files volume.old) (λ fs. BreaksFirst fs file) }
+    ensures rising { IfOk result (λ pair. AreRising 0 pair.1) }
     ensures never_full { (need room : ℕ) → IsErrOf result (LogFault.LogFull need room) → ⊥ }
     ensures refused { (file : FileNo) → IsErrOf result (LogFault.NotALog file)
         → V.files volume.new ≡ V.files volume.old }
@@ -61,6 +63,7 @@ fn attach_made<V: Volume>(
         (λ fs. (records : List (List ImageData)) × AttachesMade fs records pair.0 pair.1)) }
     ensures not_a_log { (file : FileNo) → IsErrOf result (LogFault.NotALog file)
         → IfSome (V.files volume.old) (λ fs. BreaksFirst fs file) }
+    ensures rising { IfOk result (λ pair. AreRising 0 pair.1) }
     ensures never_full { (need room : ℕ) → IsErrOf result (LogFault.LogFull need room) → ⊥ }
     ensures same { IsOnlyRead V.files V.story V.moment V.log_faults volume.old volume.new }
     ensures faults { FailsAs LogFault.Failed (V.faults volume.old) (V.faults volume.new) result }
@@ -88,6 +91,7 @@ fn attach_firm<V: Volume>(
     ensures stands { IfOk result (λ pair. IfSome (V.files volume.new) (λ fs. StandsIn pair.0 fs)) }
     ensures not_a_log { (file : FileNo) → IsErrOf result (LogFault.NotALog file)
         → IfSome (V.files volume.old) (λ fs. BreaksFirst fs file) }
+    ensures rising { IfOk result (λ pair. AreRising 0 pair.1) }
     ensures never_full { (need room : ℕ) → IsErrOf result (LogFault.LogFull need room) → ⊥ }
     ensures refused { (file : FileNo) → IsErrOf result (LogFault.NotALog file)
         → V.files volume.new ≡ V.files volume.old }
@@ -116,6 +120,7 @@ impl Log {
         ensures stands { IfOk result (λ pair. IfSome (V.files volume.new) (λ fs. StandsIn pair.0 fs)) }
         ensures not_a_log { (file : FileNo) → IsErrOf result (LogFault.NotALog file)
             → IfSome (V.files volume.old) (λ fs. BreaksFirst fs file) }
+        ensures rising { IfOk result (λ pair. AreRising 0 pair.1) }
         ensures never_full { (need room : ℕ) → IsErrOf result (LogFault.LogFull need room) → ⊥ }
         ensures refused { (file : FileNo) → IsErrOf result (LogFault.NotALog file)
             → V.files volume.new ≡ V.files volume.old }

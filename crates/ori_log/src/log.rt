@@ -33,6 +33,7 @@ impl Log {
     ghost use Rattle.ori_volume.specs.Causes.{HasCause};
     ghost use Rattle.ori_volume.specs.Story.{Tells};
     ghost use Rattle.ori_log.specs.Images.{AreRising};
+    ghost use Rattle.ori_log.specs.Log.{IsLogRecord};
     ghost use Rattle.ori_log.specs.Appending.{need_of, room_of, Appends, WritesBody, OpensGate, FailsAs};
     ghost use Rattle.ori_log.specs.Appending.{AppendsFiles, WritesBodyFiles, GateFiles};
     ghost use Rattle.ori_log.specs.Switching.{Switches, SwitchesFiles};
@@ -72,6 +73,7 @@ impl Log {
         MAX_LOG_BYTES - self.place
     }
 
+    #[tactic(auto, using(crate::proofs::Joins::log_record))]
     /// Adds a record of these images; takes no memory. At `Ok` every crash from then on leaves a log that has it. Where
     /// the file ends before the record does, it grows with zeros to the next multiple of `LOG_STEP_BYTES`, and not past
     /// 2^30 bytes: a sync of a file whose length stays is cheaper. Else its length stays.
@@ -85,6 +87,7 @@ impl Log {
         ensures full { room_of self.old < need_of images.now
             → (result ≡ Err (LogFault.LogFull (need_of images.now) (room_of self.old)))
             × (self.new ≡ self.old) × (volume.new ≡ volume.old) }
+        ensures whole { IsLogRecord images.now }
         ensures fits { need_of images.now ≤ room_of self.old → OnErr result (result ≡ Err LogFault.Failed) }
         ensures counts { OnOk result ((self.new.tail ≡ self.old.tail + 1)
             × (self.new.place ≡ self.old.place + (need_of images.now - 1)) × (self.new.file ≡ self.old.file)) }

@@ -1,13 +1,12 @@
 // What statements read a database through.
 ghost use Rattle.std.specs.Prelude.{◌≡◌, ℕ, Option, IfOk, IfErr, IfSome};
 ghost use Rattle.ori_bytes.specs.declared.causes.Causes.{Causes};
-ghost use Rattle.ori_volume.specs.Story.{Story};
 ghost use Rattle.ori_spec_data.specs.Apply.{HasOwnFields};
 ghost use Rattle.ori_spec_data.specs.Views.{BelowData, ViewData};
 ghost use Rattle.ori_spec_data.specs.Keeping.{StateData};
 ghost use Rattle.ori_model.specs.Data.{schema_of};
 ghost use Rattle.ori_model.specs.Reading.{read_counted, fetch_counted, MayFail, IsFetched};
-ghost use Rattle.ori_model.specs.Standing.{IsUnchanged};
+ghost use Rattle.ori_model.specs.Standing.{PastData, IsUnchanged};
 
 use crate::{ReadFault, Schema, Stored};
 use ori_bytes::{Causes, Rid};
@@ -27,10 +26,10 @@ pub trait Reader {
 
     ghost below: { Self → BelowData };
 
-    /// A fact about the outside since an earlier moment, of which a story was told or none, and which every call keeps:
-    /// what whoever made the reader knows, such as what a crash leaves. By it that passes through code which reads and
-    /// commits by the traits alone.
-    ghost sound: { Self → Option Story → Type 0 } = { λ _ _. Unit {0} };
+    /// A fact about the outside since an earlier moment, by what it told then, which every call keeps: what whoever
+    /// made the reader knows, such as what a crash leaves. By it that passes through code which reads and commits by the
+    /// traits alone.
+    ghost sound: { Self → PastData → Type 0 } = { λ _ _. Unit {0} };
 
     /// How many records it has given.
     ghost fetched: { Self → ℕ };

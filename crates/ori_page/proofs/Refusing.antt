@@ -3,6 +3,7 @@ use Rattle.std.proofs.Common.{◌≡◌, ◌≢◌, ℕ, ◌+◌, ◌-◌, ◌<�
 use Rattle.std.proofs.Common.{set, Result, Ok, Err, sym, ap, subst, ◌∙◌, true≢false, cond, arith}
 use Rattle.std.specs.Result.{IfOk, IfErr, OnOk, IsErrOf}
 use Rattle.std.proofs.lemmas.Bool.{ne_eqb, eqb-true, ltb-true, and_parts}
+use Rattle.std.proofs.lemmas.List.{length-set}
 use Rattle.ori_bytes.specs.declared.limits.TheConstants.{MAX_PAGES, FREE_KIND}
 use Rattle.ori_page.specs.declared.head.Head.{Head}
 use Rattle.ori_page.specs.declared.fault.PageFault.{PageFault}
@@ -127,11 +128,11 @@ is_grown (Ok at) pages after head page owner kind same is some h =
 
 pub is_freed : {T : Type 0} (r : Result T PageFault) (pages after : List (List ℕ)) (head new : Head) (page : List ℕ)
     (p : ℕ) → head ≡ head_in pages → Fits32 head → page ≡ free_page head.first_free → 0 < p → p < length pages
-    → kind_of (page_at pages p) ≢ FREE_KIND → new ≡ record head { first_free = p; free_count = head.free_count + 1 }
+    → new ≡ record head { first_free = p; free_count = head.free_count + 1 }
     → Fits32 new → OnOk r (after ≡ set (set pages 0 (with_head new (page_at pages 0))) p page)
-    → OnOk r (IsReleased p pages after)
-is_freed (Err e) pages after head new page p same small is above below used made fits h = tt
-is_freed (Ok x) pages after head new page p same small is above below used made fits h =
+    → OnOk r (kind_of (page_at pages p) ≢ FREE_KIND → IsReleased p pages after)
+is_freed (Err e) pages after head new page p same small is above below made fits h = tt
+is_freed (Ok x) pages after head new page p same small is above below made fits h = λ used.
     let headed : new ≡ more_of pages p
     = made ∙ ap (λ (x : Head). record x { first_free = p; free_count = x.free_count + 1 }) same in
     let paged : page ≡ free_page (head_in pages).first_free = is ∙ ap (λ (x : Head). free_page x.first_free) same in
@@ -141,3 +142,9 @@ is_freed (Ok x) pages after head new page p same small is above below used made 
     ∙ ap (λ (x : List ℕ). set (set pages 0 (with_head (more_of pages p) (page_at pages 0))) p x) paged in
     subst (λ (a : List (List ℕ)). IsReleased p pages a) (sym e)
     (freed pages p above below used (subst Fits32 headed fits) (subst Fits32 same small).first_free)
+
+-- two pages are written
+pub same_count : {T : Type 0} (r : Result T PageFault) (pages after : List (List ℕ)) (x y : List ℕ) (p : ℕ)
+    → OnOk r (after ≡ set (set pages 0 x) p y) → OnOk r (length after ≡ length pages)
+same_count (Ok v) pages after x y p h = ap length h ∙ length-set (set pages 0 x) p y ∙ length-set pages 0 x
+same_count (Err e) pages after x y p h = tt

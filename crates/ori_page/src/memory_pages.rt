@@ -151,8 +151,9 @@ impl PageList {
     fn free(&mut self, page: u32) -> Result<(), PageFault>
         requires above { 0 < page }
         requires below { page < length self.old.pages.items }
-        requires used { kind_of (page_at self.old.pages.items page) ≢ FREE_KIND }
-        ensures ok { OnOk result (IsReleased page self.old.pages.items self.new.pages.items) }
+        ensures ok { OnOk result (kind_of (page_at self.old.pages.items page) ≢ FREE_KIND
+            → IsReleased page self.old.pages.items self.new.pages.items) }
+        ensures count { OnOk result (length self.new.pages.items ≡ length self.old.pages.items) }
         ensures err { IfErr result (WhyNotFreed self.old.pages.items) }
     {
         let alloc = *self.pages.allocator();

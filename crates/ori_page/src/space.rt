@@ -77,13 +77,13 @@ pub trait PageSpace {
         ensures causes { causes self.new ≡ page_counted result (causes self.old) }
         ensures reads { reads self.new ≡ reads self.old };
 
-    /// Makes a page free. It isn't the head, and isn't free. It answers `Damaged` only where the head isn't one, and
-    /// never `PagesFull`.
+    /// Makes a page in use free. It isn't the head. What is given after it isn't said where the page was free. It
+    /// answers `Damaged` only where the head isn't one, and never `PagesFull`.
     fn release(&mut self, page: u32) -> Result<(), PageFault>
         requires head { page ≢ 0 }
         requires page { page < count self.old }
-        requires used { (pages : List (List ℕ)) → gives self.old pages → kind_of (page_at pages page) ≢ FREE_KIND }
         ensures pages { OnOk result ((pages : List (List ℕ)) → gives self.old pages
+            → kind_of (page_at pages page) ≢ FREE_KIND
             → (after : List (List ℕ)) × gives self.new after × IsReleased page pages after) }
         ensures count { OnOk result (count self.new ≡ count self.old) }
         ensures fault { IfErr result MayNotRelease }

@@ -1,3 +1,4 @@
 mod Looking
+pub mod Held
 pub mod Places
 mod Settling

@@ -11,7 +11,7 @@ missed : (page other k : ℕ) → other ≢ page → nat_eq page k ≡ true → 
 missed page other k apart is = ne_eqb other k (λ e. apart (e ∙ sym (eqb-true page k is)))
 
 module _ {V : Type 0} where
-  found : (test : ℕ → Bool) (es : List (ℕ × V)) (e : ℕ × V) → lookup_entry test es ≡ Some e
+  pub found : (test : ℕ → Bool) (es : List (ℕ × V)) (e : ℕ × V) → lookup_entry test es ≡ Some e
       → (test e.0 ≡ true) × (lookup test es ≡ Some e.1)
   found test [] e h = cc
   found test (x ∷ xs) e h =
@@ -38,7 +38,7 @@ module _ {V : Type 0} where
 
   -- another page
   module _ (page other : ℕ) (apart : other ≢ page) where
-    removed_other : (es : List (ℕ × V)) → lookup (nat_eq other) (remove_entry (nat_eq page) es)
+    pub removed_other : (es : List (ℕ × V)) → lookup (nat_eq other) (remove_entry (nat_eq page) es)
         ≡ lookup (nat_eq other) es
     removed_other [] = refl
     removed_other (e ∷ es) =
@@ -64,7 +64,7 @@ module _ {V : Type 0} where
             ≡ lookup (nat_eq other) es) (sym (missed page other e.0 apart (found (nat_eq page) es e is).0))
             (removed_other es)
 
-  promoted_any : (page q : ℕ) (es : List (ℕ × V)) → lookup (nat_eq q) (promoted (nat_eq page) es)
+  pub promoted_any : (page q : ℕ) (es : List (ℕ × V)) → lookup (nat_eq q) (promoted (nat_eq page) es)
       ≡ lookup (nat_eq q) es
   promoted_any page q es =
       (elim (nat_eq q page) as (λ b. nat_eq q page ≡ b

@@ -1,5 +1,5 @@
 -- A partition of the cache: pages with a place, of which some are dirty, and clean pages.
-use Rattle.std.specs.Prelude.{◌≡◌, ◌⊎◌, ℕ, suc, Bool, true, false, not, ◌&&◌, if◌then◌else◌, nat_eq, List}
+use Rattle.std.specs.Prelude.{◌≡◌, ◌≢◌, ◌⊎◌, ℕ, suc, Bool, true, false, not, ◌&&◌, if◌then◌else◌, nat_eq, List}
 use Rattle.std.specs.Prelude.{[], ◌∷◌, ◌++◌}
 use Rattle.std.specs.Prelude.{map, filter, Option, Some, None, is_some}
 use Rattle.std.specs.Option.{option_and_then}
@@ -61,6 +61,24 @@ clean_at part page = lookup (nat_eq page) part.clean
 -- the content of a page that the partition holds, dirty or clean
 abbrev pub content_at : PartData → ℕ → Option (List ℕ)
 content_at part page = if is_some (dirty_at part page) then dirty_at part page else clean_at part page
+
+-- the partition holds this content of the page, dirty or clean
+abbrev pub Holds : PartData → ℕ → List ℕ → Type 0
+Holds part page content = (dirty_at part page ≡ Some content) ⊎ (clean_at part page ≡ Some content)
+
+-- what is held now was held
+abbrev pub HoldsNoMore : PartData → PartData → Type 0
+HoldsNoMore old new = (page : ℕ) (content : List ℕ) → Holds new page content → Holds old page content
+
+-- what is held now was held, or is this page's content
+abbrev pub HoldsMore : ℕ → List ℕ → PartData → PartData → Type 0
+HoldsMore page content old new = (q : ℕ) (c : List ℕ) → Holds new q c
+    → ((q ≡ page) × (c ≡ content)) ⊎ Holds old q c
+
+-- what is held now was held, of pages but this one, and of this one it is this content
+abbrev pub HoldsInstead : ℕ → List ℕ → PartData → PartData → Type 0
+HoldsInstead page content old new = (q : ℕ) (c : List ℕ) → Holds new q c
+    → ((q ≡ page) × (c ≡ content)) ⊎ ((q ≢ page) × Holds old q c)
 
 -- ---- what the calls do
 

@@ -7,6 +7,7 @@ ghost use Rattle.ori_bytes.specs.declared.limits.TheConstants.{CLEAN_PAGES};
 ghost use Rattle.ori_part.specs.Parts.{no_pages, place_at, has_place, dirty_at, clean_at, content_at, looked};
 ghost use Rattle.ori_part.specs.Parts.{kept, reserved, installed, marked, unwritten_page, trimmed, is_dirty, unwritten};
 ghost use Rattle.ori_part.specs.Parts.{first_unwritten, settled_in, written_in, BecomesClean, IsSettled, dirty_in};
+ghost use Rattle.ori_part.specs.Parts.{HoldsNoMore, HoldsInstead};
 ghost use Rattle.ori_part.specs.Lending.{LendsPage};
 
 use crate::Place;
@@ -132,8 +133,11 @@ impl Part {
     /// Makes a page with a place dirty and unwritten. Takes no memory.
     pub fn install(&mut self, page: u32, content: Page)
         requires { IsTrue (has_place self.old page) }
-        ensures { self.new ≡ installed self.old page content }
+        ensures installed { self.new ≡ installed self.old page content }
+        ensures held { HoldsInstead page content self.old self.new }
     {
+        // No page is clean twice.
+        let _count = self.clean.len();
         self.clean.pop(&page);
         let Some(at) = self.places.get_index_of(&page) else {
             return;
@@ -174,7 +178,8 @@ impl Part {
     /// Makes each written page a clean one, in the order of the places, or lets it go if out of memory. It is no longer
     /// dirty, and its place stays. Takes as long as there are places.
     pub fn settled(&mut self)
-        ensures { IsSettled self.old self.new }
+        ensures settled { IsSettled self.old self.new }
+        ensures held { HoldsNoMore self.old self.new }
     {
         for at in 0..self.places.len() {
             settle_place(&mut self.places, &mut self.clean, at);

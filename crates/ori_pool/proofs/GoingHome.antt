@@ -6,24 +6,19 @@ use Rattle.std.proofs.lemmas.Bool.{eqb-true, eqb-false, eq-eqb}
 use Rattle.std.proofs.lemmas.Map.{length-set_value}
 use Rattle.std.specs.Map.{lookup, set_value}
 use Rattle.ori_bytes.specs.declared.limits.TheConstants.{PARTITIONS}
-use Rattle.ori_volume.specs.Disk.{Disk, FileData}
+use Rattle.ori_volume.specs.Disk.{Files}
 use Rattle.ori_volume.specs.Story.{Story, Tells}
 use Rattle.ori_volume.proofs.Known.{tells_then}
-use Rattle.ori_volume.proofs.RunSteps.{run_begins, run_then}
-use Rattle.ori_volume.specs.Runs.{EachImage}
-use Rattle.ori_log.specs.Log.{ImageData}
-use Rattle.ori_log.specs.declared.log.Log.{Log}
 use Rattle.ori_part.specs.declared.place.Place.{Place}
 use Rattle.ori_part.specs.Parts.{PartData, place_at, has_place, marked, written, is_unwritten, first_unwritten}
 use Rattle.ori_part.specs.Parts.{unwritten_page}
 use Rattle.ori_part.specs.Parts as part
 use Rattle.ori_part.proofs.Places.{first_within}
 use Rattle.ori_cover.specs.Dirty.{Dirty, DirtyPage, unwritten, IsMarked}
-use Rattle.ori_cover.specs.Given.{HoldsPages}
-use Rattle.ori_cover.specs.Cover.{IsCovered, Stands}
-use Rattle.ori_cover.specs.Homes.{this_page}
-use Rattle.ori_cover.proofs.Moments.{stands_covers, covers_run, sure_run}
-use Rattle.ori_cover.proofs.HomeSteps.{home_last, home_covers, stands_on}
+use Rattle.ori_cover.specs.Reading.{WritesHomeRead}
+use Rattle.ori_cover.specs.Steps.{WritesHome}
+use Rattle.ori_cover.specs.Views.{View, on_disk, as_read}
+use Rattle.ori_cover.proofs.Views.{Laws, HomeWrites, disk_laws, read_laws, disk_writes, read_writes}
 use Rattle.ori_pool.specs.Held.{dirty_place, dirty_of, held_at, placed_in, dirty_held, dirty_with}
 use Rattle.ori_pool.specs.Held.{HasOwn, AreOwn, KeepsPlaces, SamePlaces, IsSent, AreSent, HoldsAll, unsent_in}
 use Rattle.ori_pool.specs.Finishes.{AreWritten}
@@ -116,45 +111,40 @@ sent_written hand others all sent page d is =
 
 -- ---- of the hand
 
--- the pages are covered, and the log stands, whichever way the dirty pages are told
-pub covered_same : (records : List (List ImageData)) (was now : Dirty) (pages : List (List ℕ)) (file : FileData)
-    → ((q : ℕ) → now q ≡ was q) → IsCovered was pages records file → IsCovered now pages records file
-covered_same records was now pages file same covered = record {
-  gives = covered.gives;
-  clean = λ page low none. covered.clean page low (sym (same page) ∙ none);
-  last = λ page d some. covered.last page d (sym (same page) ∙ some);
-  written = λ page d some. covered.written page d (sym (same page) ∙ some);
-}
+module _ {S : Type 0} (view : View S) (laws : Laws view) where
+  -- nothing is sent
+  sends_none : (old new : List (Option PartData)) (x : S)
+      → ((k : ℕ) → get_or new k None ≡ get_or old k None) → Sends view old new x x
+  sends_none old new x same others log pages records stands = record {
+    moments = laws.holds_at pages x;
+    stands = laws.stands_same log records (dirty_with others old) (dirty_with others new) pages x
+        (λ q. ap (λ o. dirty_held (others q) o q) (same (q % PARTITIONS))) stands;
+  }
 
-pub stands_same : (log : Log) (records : List (List ImageData)) (was now : Dirty) (pages : List (List ℕ)) (disk : Disk)
-    → ((q : ℕ) → now q ≡ was q) → Stands log records was pages disk → Stands log records now pages disk
-stands_same log records was now pages disk same stands = record {
-  sized = stands.sized;
-  attached = stands.attached;
-  covered = covered_same records was now pages disk.pages same stands.covered;
-}
+  -- one after the other
+  sends_more : (old mid new : List (Option PartData)) (x y z : S) → Sends view old mid x y → Sends view mid new y z
+      → Sends view old new x z
+  sends_more old mid new x y z first second others log pages records stands =
+      let a = first others log pages records stands in
+      let b = second others log pages records a.stands in
+      record { moments = laws.holds_then pages x y z a.moments b.moments; stands = b.stands }
 
--- nothing is sent
-sends_none : (old new : List (Option PartData)) (x : Story)
-    → ((k : ℕ) → get_or new k None ≡ get_or old k None) → Sends old new x x
-sends_none old new x same others log pages records stands = record {
-  moments = run_begins (EachImage (HoldsPages pages)) x x refl;
-  stands = stands_same log records (dirty_with others old) (dirty_with others new) pages x.now.disk
-      (λ q. ap (λ o. dirty_held (others q) o q) (same (q % PARTITIONS))) stands;
-}
+  pub told_more : (old mid new : List (Option PartData)) (a b c : Option S) → Tells (Sends view old mid) a b
+      → Tells (Sends view mid new) b c → Tells (Sends view old new) a c
+  told_more old mid new a b c first second =
+      tells_then (Sends view old mid) (Sends view mid new) (Sends view old new) a b c
+      (λ x y z one two. sends_more old mid new x y z one two) first second
 
--- one after the other
-sends_more : (old mid new : List (Option PartData)) (x y z : Story) → Sends old mid x y → Sends mid new y z
-    → Sends old new x z
-sends_more old mid new x y z first second others log pages records stands =
-    let a = first others log pages records stands in
-    let b = second others log pages records a.stands in
-    record { moments = run_then (EachImage (HoldsPages pages)) x y z a.moments b.moments; stands = b.stands }
-
-pub told_more : (old mid new : List (Option PartData)) (a b c : Option Story) → Tells (Sends old mid) a b
-    → Tells (Sends mid new) b c → Tells (Sends old new) a c
-told_more old mid new a b c first second = tells_then (Sends old mid) (Sends mid new) (Sends old new) a b c
-    (λ x y z one two. sends_more old mid new x y z one two) first second
+-- by another kind of write
+flushes_map : {S E : Type 0} (W U : ℕ → List ℕ → Result (Unit {0}) E → S → S → Type 0)
+    → ((page : ℕ) (content : List ℕ) (r : Result (Unit {0}) E) (x y : S) → W page content r x y → U page content r x y)
+    → (old new : PartData) (result : Result Bool E) (x y : S) → FlushesFirst W old new result x y
+    → FlushesFirst U old new result x y
+flushes_map W U step old new (Ok false) x y flushed = flushed
+flushes_map W U step old new (Ok true) x y (page, content, dirty, is, writes) =
+    (page, content, dirty, is, step page content (Ok tt) x y writes)
+flushes_map W U step old new (Err fault) x y (page, content, dirty, is, writes) =
+    (page, content, dirty, is, step page content (Err fault) x y writes)
 
 module _ (hand : List (Option PartData)) (i : ℕ) (low : i < length hand) (taken : Option PartData)
     (old now : PartData) (was : get_or hand i None ≡ Some old) where
@@ -189,37 +179,38 @@ module _ (hand : List (Option PartData)) (i : ℕ) (low : i < length hand) (take
       (λ q a b. dirty_held (others q) b q ≡ dirty_held (others q) a q)
       (λ q same. ap (λ p. dirty_of p q) is) (λ q o apart. refl)
 
-  pub sends_first : {E : Type 0} (result : Result Bool E) (x y : Story) → HasOwn i (Some old)
-      → FlushesFirst old now result x y → Sends hand made x y
-  sends_first (Ok false) x y own flushed others log pages records stands =
-      subst (λ (s : Story). Sent log (dirty_with others made) pages records x s) (sym flushed.1) (record {
-        moments = run_begins (EachImage (HoldsPages pages)) x x refl;
-        stands = stands_same log records (dirty_with others hand) (dirty_with others made) pages x.now.disk
-            (hand_same flushed.0 others) stands;
-      })
-  sends_first (Ok true) x y own (page, content, dirty, is, writes) others log pages records stands =
-      let was_dirty = dirty_with others hand in
-      let covers = stands_covers log records was_dirty pages pages x.now.disk stands in
-      let w = writes was_dirty pages pages records (here_dirty own page content dirty others) covers in
-      let last = home_last (this_page page) was_dirty pages pages records x y covers w.moments in
-      record {
-        moments = sure_run pages x y (covers_run was_dirty pages pages records x y
-            (home_covers (this_page page) was_dirty pages pages records x y w.moments));
-        stands = stands_on log records was_dirty (dirty_with others made) pages pages x.now.disk y.now.disk stands
-            last.only (w.done (dirty_with others made) (hand_marked own page content dirty others is));
-      }
-  sends_first (Err fault) x y own (page, content, dirty, is, writes) others log pages records stands =
-      let was_dirty = dirty_with others hand in
-      let covers = stands_covers log records was_dirty pages pages x.now.disk stands in
-      let w = writes was_dirty pages pages records (here_dirty own page content dirty others) covers in
-      let last = home_last (this_page page) was_dirty pages pages records x y covers w.moments in
-      record {
-        moments = sure_run pages x y (covers_run was_dirty pages pages records x y
-            (home_covers (this_page page) was_dirty pages pages records x y w.moments));
-        stands = stands_same log records was_dirty (dirty_with others made) pages y.now.disk
-            (hand_same is others) (stands_on log records was_dirty was_dirty pages pages x.now.disk y.now.disk stands
-            last.only last.covers);
-      }
+  module _ {S : Type 0} (view : View S) (laws : Laws view) where
+    sends_first : {E : Type 0} (result : Result Bool E) (x y : S) → HasOwn i (Some old)
+        → FlushesFirst {E = E} (HomeWrites view) old now result x y → Sends view hand made x y
+    sends_first (Ok false) x y own flushed others log pages records stands =
+        subst (λ (s : S). Sent view log (dirty_with others made) pages records x s) (sym flushed.1) (record {
+          moments = laws.holds_at pages x;
+          stands = laws.stands_same log records (dirty_with others hand) (dirty_with others made) pages x
+              (hand_same flushed.0 others) stands;
+        })
+    sends_first (Ok true) x y own (page, content, dirty, is, writes) others log pages records stands =
+        let w = writes log records (dirty_with others hand) pages (here_dirty own page content dirty others) stands in
+        record {
+          moments = w.moments;
+          stands = w.done (dirty_with others made) (hand_marked own page content dirty others is);
+        }
+    sends_first (Err fault) x y own (page, content, dirty, is, writes) others log pages records stands =
+        let w = writes log records (dirty_with others hand) pages (here_dirty own page content dirty others) stands in
+        record {
+          moments = w.moments;
+          stands = laws.stands_same log records (dirty_with others hand) (dirty_with others made) pages y
+              (hand_same is others) w.stays;
+        }
+
+  pub sends_disk : {E : Type 0} (result : Result Bool E) (x y : Story) → HasOwn i (Some old)
+      → FlushesFirst {E = E} WritesHome old now result x y → Sends on_disk hand made x y
+  sends_disk {E} result x y own flushed = sends_first on_disk disk_laws result x y own
+      (flushes_map {E = E} WritesHome (HomeWrites on_disk) disk_writes old now result x y flushed)
+
+  pub sends_read : {E : Type 0} (result : Result Bool E) (x y : Files) → HasOwn i (Some old)
+      → FlushesFirst {E = E} WritesHomeRead old now result x y → Sends as_read hand made x y
+  sends_read {E} result x y own flushed = sends_first as_read read_laws result x y own
+      (flushes_map {E = E} WritesHomeRead (HomeWrites as_read) read_writes old now result x y flushed)
 
   pub keeps_slots : ((page : ℕ) → has_place now page ≡ has_place old page) → SamePlaces hand made
   keeps_slots places = slots hand i low taken old now was (λ k a b. KeepsPlaces a b)

@@ -36,7 +36,7 @@ abbrev image_of : ℕ → PageImage → Option (List ℕ)
 image_of page image = cond (image.page == page) (Some image.content) None
 
 -- the last image of a page, with one image more
-last_push : (page : ℕ) (images : List PageImage) (image : PageImage)
+pub last_push : (page : ℕ) (images : List PageImage) (image : PageImage)
     → last_image page (map image_data (images ++ image ∷ []))
     ≡ first_of (image_of page image) (last_image page (map image_data images))
 last_push page [] image = sym (last_none (image_of page image))

@@ -7,7 +7,8 @@ use Rattle.ori_bytes.specs.declared.limits.TheConstants.{PARTITIONS}
 use Rattle.ori_part.specs.declared.place.Place.{Place}
 use Rattle.ori_part.specs.Parts.{PartData, settled_in, settled_place, place_at, dirty_in}
 use Rattle.ori_cover.specs.Dirty.{Dirty, DirtyPage, AreSettled, settled_page}
-use Rattle.ori_pool.specs.Held.{held_at, dirty_held, dirty_with, IsSettledHeld, AreSettledHeld, HoldsAll, KeepsPlaces, SamePlaces, placed_in}
+use Rattle.ori_pool.specs.Held.{held_at, dirty_held, dirty_with, IsSettledHeld}
+use Rattle.ori_pool.specs.Held.{AreSettledHeld, HoldsAll, KeepsPlaces, SamePlaces, placed_in}
 use Rattle.ori_pool.specs.Held.{dirty_place, HasOwn, AreOwn, IsTrimmedHeld, AreTrimmed, HasNoBare, HaveNoBare}
 use Rattle.ori_pool.proofs.Held.{settles}
 
@@ -36,7 +37,7 @@ held_settled : (old new : Option PartData) (page : ℕ) (others : Dirty) → is_
     → dirty_held (others page) new page ≡ settled_page (dirty_held (others page) old page)
 held_settled None new page others there settled = cc
 held_settled (Some part) None page others there settled = absurd settled
-held_settled (Some part) (Some now) page others there settled = settles part now settled page
+held_settled (Some part) (Some now) page others there settled = settles part now settled.0 page
 
 pub hand_settled : (old new : Parts) (others : Dirty) → HoldsAll old → AreSettledHeld old new
     → AreSettled (dirty_with others old) (dirty_with others new)
@@ -60,7 +61,7 @@ slot_settled None new is = record { held = ap is_some is; places = λ page. ap (
 slot_settled (Some part) None is = absurd is
 slot_settled (Some part) (Some now) is = record {
   held = refl;
-  places = λ page. ap (λ es. is_some (lookup (nat_eq page) es)) is.places ∙ place_stays (nat_eq page) part.places;
+  places = λ page. ap (λ es. is_some (lookup (nat_eq page) es)) is.0.places ∙ place_stays (nat_eq page) part.places;
 }
 
 pub settled_places : (old new : Parts) → AreSettledHeld old new → SamePlaces old new

@@ -1,13 +1,11 @@
 -- What a commit of an operation does to the pages.
 use Rattle.std.specs.Prelude.{◌≡◌, ◌⊎◌, ℕ, false, List, [], ◌∷◌, ◌++◌, if◌then◌else◌, Option, None, Result, OnOk, OnErr}
-use Rattle.ori_volume.specs.Story.{Story}
-use Rattle.ori_volume.specs.Runs.{Run, EachImage}
 use Rattle.ori_log.specs.Log.{ImageData}
 use Rattle.ori_log.specs.declared.log.Log.{Log}
 use Rattle.ori_part.specs.Parts.{PartData}
 use Rattle.ori_cover.specs.Dirty.{Dirty}
-use Rattle.ori_cover.specs.Given.{ArePut, HoldsEither}
-use Rattle.ori_cover.specs.Cover.{Stands, Covers}
+use Rattle.ori_cover.specs.Given.{ArePut}
+use Rattle.ori_cover.specs.Views.{View}
 use Rattle.ori_pool.specs.Devices.{OnLog, is_due, kept_tail}
 use Rattle.ori_pool.specs.Finishes.{Finished}
 use Rattle.ori_pool.specs.Held.{dirty_with}
@@ -17,15 +15,15 @@ abbrev pub left_in : Log → List (List ImageData) → List (List ImageData)
 left_in log records = if is_due log then [] else records
 
 -- a checkpoint, where one is due
-abbrev pub MakesRoomOn : {T E : Type 0} → Log → Log → Dirty → Dirty → Option ℕ → Result T E → Story → Story → Type 0
-MakesRoomOn old_log new_log was now halted result old new = (pages : List (List ℕ))
-    (records : List (List ImageData)) → Stands old_log records was pages old.now.disk
-    → Finished new_log now pages (left_in old_log records) records halted result old new
+abbrev pub MakesRoomOn : {S T E : Type 0} → View S → Log → Log → Dirty → Dirty → Option ℕ → Result T E → S → S → Type 0
+MakesRoomOn view old_log new_log was now halted result old new = (pages : List (List ℕ))
+    (records : List (List ImageData)) → view.stands old_log records was pages old
+    → Finished view new_log now pages (left_in old_log records) records halted result old new
 
-abbrev pub MakesRoom : {T E : Type 0} → Option Log → Option Log → List (Option PartData) → List (Option PartData)
-    → Option ℕ → Result T E → Story → Story → Type 0
-MakesRoom old_log new_log old_hand new_hand halted result old new = (others : Dirty)
-    → OnLog (λ log now_log. MakesRoomOn log now_log (dirty_with others old_hand) (dirty_with others new_hand)
+abbrev pub MakesRoom : {S T E : Type 0} → View S → Option Log → Option Log → List (Option PartData)
+    → List (Option PartData) → Option ℕ → Result T E → S → S → Type 0
+MakesRoom view old_log new_log old_hand new_hand halted result old new = (others : Dirty)
+    → OnLog (λ log now_log. MakesRoomOn view log now_log (dirty_with others old_hand) (dirty_with others new_hand)
     halted result old new) old_log new_log
 
 -- the record of any operation has room then, behind so many others
@@ -36,25 +34,25 @@ LeavesRoom old_log new_log =
 -- At every moment of a commit each image holds the pages, or those with its images. After Ok the log stands over these,
 -- with the dirty pages that there are then. After a refusal the pages are covered, and those with the images may be in
 -- doubt; where nothing is halted the log stands over the pages.
-pub record Committed {T E : Type 0} (new_log : Log) (images : List ImageData) (now : Dirty)
+pub record Committed {S T E : Type 0} (view : View S) (new_log : Log) (images : List ImageData) (now : Dirty)
     (pages put : List (List ℕ)) (left : List (List ImageData)) (halted : Option ℕ) (result : Result T E)
-    (old new : Story) : Type 0 where
-  pub moments : Run (EachImage (HoldsEither pages put)) old new
-  pub done : OnOk result (Stands new_log (left ++ images ∷ []) now put new.now.disk)
+    (old new : S) : Type 0 where
+  pub moments : view.either pages put old new
+  pub done : OnOk result (view.stands new_log (left ++ images ∷ []) now put new)
   pub failed : OnErr result ((records : List (List ImageData))
-      × (Covers now pages pages records new.now.disk ⊎ Covers now pages put records new.now.disk))
+      × (view.covers now pages pages records new ⊎ view.covers now pages put records new))
   pub unhalted : OnErr result (halted ≡ None → (records : List (List ImageData))
-      × Stands new_log records now pages new.now.disk)
+      × view.stands new_log records now pages new)
 
-abbrev pub CommitsOn : {T E : Type 0} → Log → Log → List ImageData → Dirty → Dirty → Option ℕ → Result T E → Story
-    → Story → Type 0
-CommitsOn old_log new_log images was now halted result old new = (pages put : List (List ℕ))
-    (records : List (List ImageData)) → Stands old_log records was pages old.now.disk → ArePut images pages put
-    → Committed new_log images now pages put (left_in old_log records) halted result old new
+abbrev pub CommitsOn : {S T E : Type 0} → View S → Log → Log → List ImageData → Dirty → Dirty → Option ℕ
+    → Result T E → S → S → Type 0
+CommitsOn view old_log new_log images was now halted result old new = (pages put : List (List ℕ))
+    (records : List (List ImageData)) → view.stands old_log records was pages old → ArePut images pages put
+    → Committed view new_log images now pages put (left_in old_log records) halted result old new
 
 -- A hand holds some of the partitions: so it is whatever pages the others hold dirty.
-abbrev pub Commits : {T E : Type 0} → Option Log → Option Log → List (Option PartData) → List (Option PartData)
-    → List ImageData → Option ℕ → Result T E → Story → Story → Type 0
-Commits old_log new_log old_hand new_hand images halted result old new = (others : Dirty)
-    → OnLog (λ log now_log. CommitsOn log now_log images (dirty_with others old_hand) (dirty_with others new_hand)
+abbrev pub Commits : {S T E : Type 0} → View S → Option Log → Option Log → List (Option PartData)
+    → List (Option PartData) → List ImageData → Option ℕ → Result T E → S → S → Type 0
+Commits view old_log new_log old_hand new_hand images halted result old new = (others : Dirty)
+    → OnLog (λ log now_log. CommitsOn view log now_log images (dirty_with others old_hand) (dirty_with others new_hand)
     halted result old new) old_log new_log

@@ -1,11 +1,14 @@
 -- What the calls of a device do to its log, and to the pages.
-use Rattle.std.specs.Prelude.{◌≡◌, ◌⊎◌, ℕ, ◌+◌, List, IfSome, Option, Some, None, Result, Ok, Err, Bool, not, nat_lt, if◌then◌else◌}
+use Rattle.std.specs.Prelude.{◌≡◌, ◌⊎◌, ℕ, ◌+◌, List, IfSome, Option, Some, None, Result, Ok, Err, Bool, not, nat_lt}
+use Rattle.std.specs.Prelude.{if◌then◌else◌, ⊤}
 use Rattle.ori_bytes.specs.declared.limits.TheConstants.{CHECKPOINT_BYTES}
 use Rattle.ori_volume.specs.Causes.{Rose}
+use Rattle.ori_volume.specs.Disk.{Files}
 use Rattle.ori_volume.specs.Story.{Story}
 use Rattle.ori_log.specs.Log.{ImageData}
 use Rattle.ori_log.specs.declared.log.Log.{Log}
-use Rattle.ori_cover.specs.Steps.{PutsRecord, SwitchesLog, OpensPages}
+use Rattle.ori_cover.specs.Reading.{OpensPagesRead}
+use Rattle.ori_cover.specs.Steps.{OpensPages}
 use Rattle.ori_pool.specs.declared.fault.DeviceFault.{DeviceFault}
 use Rattle.ori_pool.specs.declared.fault.DeviceFault.TheVariants as device
 use Rattle.ori_pool.specs.declared.fault.OpFault.{OpFault}
@@ -25,6 +28,13 @@ Opens {E} (Err fault) log old new = OpensPages {E = E} (Err fault) old new
 Opens {E} (Ok images) None old new = ⊥
 Opens {E} (Ok images) (Some log) old new = OpensPages {E = E} (Ok (log, images)) old new
 
+-- the same of the bytes alone, where it isn't refused
+abbrev pub OpensRead : {E : Type 0} → Result (List ImageData) E → Option Log → Files → Files → Type 0
+OpensRead (Err fault) log old new = ⊤
+OpensRead (Ok images) None old new = ⊥
+OpensRead (Ok images) (Some log) old new =
+    (records : List (List ImageData)) × OpensPagesRead log images records old new
+
 -- the log holds so many bytes that a commit makes a checkpoint first
 abbrev pub is_due : Log → Bool
 is_due log = not (nat_lt log.place CHECKPOINT_BYTES)
@@ -33,14 +43,17 @@ is_due log = not (nat_lt log.place CHECKPOINT_BYTES)
 abbrev pub kept_tail : Log → ℕ
 kept_tail log = if is_due log then 0 else log.tail
 
--- a record is put into the device's log
-abbrev pub Puts : {T E : Type 0} → Option Log → Option Log → List ImageData → Result T E → Story → Story → Type 0
-Puts old_log new_log images result old new =
-    OnLog (λ log now. PutsRecord log now images result old new) old_log new_log
+-- a record is put into the device's log, which is so
+abbrev pub Puts : {S T E : Type 0} → (Log → Log → List ImageData → Result T E → S → S → Type 0) → Option Log
+    → Option Log → List ImageData → Result T E → S → S → Type 0
+Puts PutsOne old_log new_log images result old new =
+    OnLog (λ log now. PutsOne log now images result old new) old_log new_log
 
--- the device's log is switched
-abbrev pub Switches : {T E : Type 0} → Option Log → Option Log → Result T E → Story → Story → Type 0
-Switches old_log new_log result old new = OnLog (λ log now. SwitchesLog log now result old new) old_log new_log
+-- the device's log is switched, which is so
+abbrev pub Switches : {S T E : Type 0} → (Log → Log → Result T E → S → S → Type 0) → Option Log → Option Log
+    → Result T E → S → S → Type 0
+Switches SwitchesOne old_log new_log result old new =
+    OnLog (λ log now. SwitchesOne log now result old new) old_log new_log
 
 -- Log work that is refused halts the device: from then on it carries the faults of that moment, and is refused with
 -- them. Without a refusal nothing is halted.

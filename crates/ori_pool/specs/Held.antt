@@ -1,12 +1,12 @@
 -- The pages that partitions hold dirty, in the words of the cover.
-use Rattle.std.specs.Prelude.{◌≡◌, ℕ, ◌-◌, ◌%◌, ◌<◌, List, length, Bool, true, false, map, is_some, ⊤}
+use Rattle.std.specs.Prelude.{◌≡◌, ◌⊎◌, ℕ, ◌-◌, ◌%◌, ◌<◌, List, [], ◌∷◌, length, Bool, true, false, map, is_some, ⊤}
 use Rattle.std.specs.Prelude.{slice_index, slice_index_or, Option, Some, None}
 use Rattle.std.specs.Option.{option_map}
 use Rattle.ori_bytes.specs.declared.limits.TheConstants.{PARTITIONS, MAX_PAGES}
-use Rattle.ori_log.specs.Log.{ImageData}
+use Rattle.ori_log.specs.Log.{ImageData, last_image}
 use Rattle.ori_part.specs.declared.place.Place.{Place}
 use Rattle.ori_part.specs.Parts.{PartData, place_at, has_place, first_unwritten, unwritten_page, IsSettled}
-use Rattle.ori_part.specs.Parts.{trimmed, dirty_in}
+use Rattle.ori_part.specs.Parts.{trimmed, dirty_in, Holds, HoldsNoMore}
 use Rattle.ori_cover.specs.Dirty.{Dirty, DirtyPage}
 
 -- the dirty page of a place
@@ -53,11 +53,11 @@ HaveParts hand images =
 abbrev pub HavePlaces : List (Option PartData) → List ImageData → Type 0
 HavePlaces hand images = (k : ℕ) → k < length images → in_place hand (slice_index (image_pages images) k) ≡ true
 
--- a partition that the hand holds is settled
+-- a partition that the hand holds is settled, and has no more of pages
 abbrev pub IsSettledHeld : Option PartData → Option PartData → Type 0
 IsSettledHeld None new = new ≡ None
 IsSettledHeld (Some part) None = ⊥
-IsSettledHeld (Some part) (Some now) = IsSettled part now
+IsSettledHeld (Some part) (Some now) = IsSettled part now × HoldsNoMore part now
 
 -- each of them is
 abbrev pub AreSettledHeld : List (Option PartData) → List (Option PartData) → Type 0
@@ -66,6 +66,36 @@ AreSettledHeld old new = (k : ℕ) → IsSettledHeld (slice_index_or old k None)
 -- the hand holds all partitions
 abbrev pub HoldsAll : List (Option PartData) → Type 0
 HoldsAll hand = (q : ℕ) → is_some (held_at hand q) ≡ true
+
+-- ---- what partitions hold of pages
+
+-- what a partition has of pages it had
+abbrev pub HasNoMore : Option PartData → Option PartData → Type 0
+HasNoMore None new = new ≡ None
+HasNoMore (Some old) None = ⊥
+HasNoMore (Some old) (Some new) = HoldsNoMore old new
+
+-- each of them holds no page but those that it held
+abbrev pub HaveNoMore : List (Option PartData) → List (Option PartData) → Type 0
+HaveNoMore old new = (number : ℕ) → HasNoMore (slice_index_or old number None) (slice_index_or new number None)
+
+-- What the partition of this number has of a page is the last of these images of it, where the page is of this number;
+-- or it had it, and no image is of the page there.
+abbrev pub HasFrom : List ImageData → ℕ → Option PartData → Option PartData → Type 0
+HasFrom images number None new = new ≡ None
+HasFrom images number (Some old) None = ⊥
+HasFrom images number (Some old) (Some new) = (page : ℕ) (content : List ℕ) → Holds new page content
+    → ((page % PARTITIONS ≡ number) × (last_image page images ≡ Some content))
+    ⊎ ((page % PARTITIONS ≡ number → last_image page images ≡ None) × Holds old page content)
+
+-- each has the last of the images of its pages, and else what it had
+abbrev pub HaveFrom : List ImageData → List (Option PartData) → List (Option PartData) → Type 0
+HaveFrom images old new =
+    (number : ℕ) → HasFrom images number (slice_index_or old number None) (slice_index_or new number None)
+
+-- one image, of a page
+abbrev pub one_image : ℕ → List ℕ → List ImageData
+one_image page content = record { page = page; content = content } ∷ []
 
 -- ---- the places of each
 
@@ -84,6 +114,15 @@ pub record KeepsPlaces (old new : Option PartData) : Type 0 where
 
 abbrev pub SamePlaces : List (Option PartData) → List (Option PartData) → Type 0
 SamePlaces old new = (number : ℕ) → KeepsPlaces (slice_index_or old number None) (slice_index_or new number None)
+
+-- and it has no more of pages
+pub record IsTended (old new : Option PartData) : Type 0 where
+  pub places : KeepsPlaces old new
+  pub contents : HasNoMore old new
+
+-- each keeps its places, and holds no page but those that it held
+abbrev pub AreTended : List (Option PartData) → List (Option PartData) → Type 0
+AreTended old new = (number : ℕ) → IsTended (slice_index_or old number None) (slice_index_or new number None)
 
 -- ---- pages that go home
 

@@ -3,3 +3,4 @@ pub mod Devices
 pub mod Finishes
 pub mod Held
 pub mod Sends
+pub mod Operating

@@ -1,52 +1,28 @@
 // An operation's pages, all at once.
-ghost use Rattle.std.specs.Prelude.{◌≡◌, ◌<◌, ◌≤◌, ◌-◌, ℕ, true, false, length, map, Option, None, Some, Err};
-ghost use Rattle.std.specs.Prelude.{IsSome, IfSome, IfOk, OnOk, OnErr, IsErrOf};
+ghost use Rattle.std.specs.Prelude.{◌≡◌, ◌+◌, ◌<◌, ◌≤◌, ◌-◌, ℕ, true, false, length, Option, None, Some, Err};
+ghost use Rattle.std.specs.Prelude.{IsSome, IfSome, IfOk, OnOk, OnErr, IsErrOf, is_some, slice_index_or};
 ghost use Rattle.ori_bytes.specs.declared.limits.TheConstants.{MAX_WEIGHT, MAX_LOG_BYTES, CHECKPOINT_BYTES};
 ghost use Rattle.ori_volume.specs.Story.{Tells};
-ghost use Rattle.ori_log.specs.Images.{image_data, AreRising};
+ghost use Rattle.ori_log.specs.Images.{AreRising};
 ghost use Rattle.ori_log.specs.Appending.{need_of, room_of, FailsAs};
 ghost use Rattle.ori_pool.specs.declared.fault.DeviceFault.{DeviceFault};
 ghost use Rattle.ori_pool.specs.declared.fault.OpFault.{OpFault};
-ghost use Rattle.ori_pool.specs.Devices.{Puts, Halts, HaltsOp, HaltsTend, is_due, op_of};
+ghost use Rattle.ori_pool.specs.Devices.{OnLog, Puts, Halts, HaltsOp, HaltsTend, is_due, kept_tail, op_of};
 ghost use Rattle.ori_pool.specs.declared.fault.TendFault.{TendFault};
 ghost use Rattle.ori_pool.specs.Commits.{Commits, MakesRoom, LeavesRoom};
+ghost use Rattle.ori_pool.specs.Operating.{Needs, Worked, Operated};
 ghost use Rattle.ori_cover.specs.Dirty.{Dirty, AreInstalled};
+ghost use Rattle.ori_cover.specs.Reading.{PutsRecordRead};
+ghost use Rattle.ori_cover.specs.Steps.{PutsRecord};
+ghost use Rattle.ori_cover.specs.Views.{on_disk, as_read};
 ghost use Rattle.ori_pool.specs.Held.{dirty_with, HaveParts, HavePlaces, HoldsAll, AreOwn, SamePlaces, HaveNoBare};
+ghost use Rattle.ori_pool.specs.Held.{AreTended, HaveNoMore, HaveFrom};
 
 use crate::finishing::checkpoint;
+use crate::images::{install_all, reserve_all};
 use crate::{Device, DeviceFault, Hand, OpFault, TendFault};
-use ori_bytes::NoMemory;
-use ori_log::{ImageList, PageImage};
+use ori_log::ImageList;
 use ori_volume::Volume;
-
-// Makes a place for each page of these images. No dirty page changes.
-fn reserve_all(hand: &mut Hand, images: &[PageImage]) -> Result<(), NoMemory>
-    requires held { HaveParts hand.old.parts.items (map image_data images.now) }
-    requires rising { AreRising 0 (map image_data images.now) }
-    ensures own { AreOwn hand.old.parts.items → AreOwn hand.new.parts.items }
-    ensures all { HoldsAll hand.old.parts.items → HoldsAll hand.new.parts.items }
-    ensures places { OnOk result (HavePlaces hand.new.parts.items (map image_data images.now)) }
-    ensures dirty { (others : Dirty) (q : ℕ)
-        → dirty_with others hand.new.parts.items q ≡ dirty_with others hand.old.parts.items q }
-{
-    for image in images {
-        hand.reserve(image.page)?;
-    }
-    Ok(())
-}
-
-// Makes the pages of these images, which have places, dirty. Takes no memory.
-fn install_all(hand: &mut Hand, images: ImageList)
-    requires { HavePlaces hand.old.parts.items images }
-    ensures slots { SamePlaces hand.old.parts.items hand.new.parts.items }
-    ensures installed { (others : Dirty) → AreInstalled images (dirty_with others hand.old.parts.items)
-        (dirty_with others hand.new.parts.items) }
-{
-    for image in images.into_vec() {
-        let PageImage { page, content } = image;
-        hand.install(page, content);
-    }
-}
 
 // Puts the record of these images, whose pages have places, and installs them.
 fn put<V: Volume>(
@@ -54,26 +30,19 @@ fn put<V: Volume>(
     hand: &mut Hand,
     images: ImageList,
 ) -> Result<u64, DeviceFault>
-    requires open { IsSome device.old.log }
-    requires some { 0 < length images }
-    requires few { length images ≤ MAX_WEIGHT }
-    requires rising { AreRising 0 images }
+    requires needs { Needs HavePlaces device.old.log hand.old.parts.items images }
     requires fits { IfSome device.old.log (λ log. need_of images ≤ room_of log) }
-    requires places { HavePlaces hand.old.parts.items images }
-    ensures ended { IfOk result (λ moment. moment ≡ V.moment device.new.volume) }
-    ensures kept { IsSome device.new.log }
-    ensures halts { Halts (V.faults device.new.volume) device.old.halted device.new.halted result }
-    ensures halted { IsSome device.old.halted → device.new ≡ device.old }
-    ensures crash { device.old.halted ≡ None → Tells (Puts device.old.log device.new.log images result)
+    ensures answers { Worked V.moment V.faults V.log_faults device.old device.new result }
+    ensures crash { device.old.halted ≡ None → Tells (Puts PutsRecord device.old.log device.new.log images result)
         (V.story device.old.volume) (V.story device.new.volume) }
+    ensures read { device.old.halted ≡ None → Tells (Puts PutsRecordRead device.old.log device.new.log images result)
+        (V.files device.old.volume) (V.files device.new.volume) }
+    ensures counts { OnOk result (OnLog (λ log now. now.tail ≡ log.tail + 1) device.old.log device.new.log) }
     ensures installed { OnOk result ((others : Dirty) → AreInstalled images (dirty_with others hand.old.parts.items)
         (dirty_with others hand.new.parts.items)) }
     ensures slots { SamePlaces hand.old.parts.items hand.new.parts.items }
+    ensures contents { OnOk result (HaveFrom images hand.old.parts.items hand.new.parts.items) }
     ensures err { OnErr result (hand.new ≡ hand.old) }
-    ensures faults { FailsAs DeviceFault.Fault (V.faults device.old.volume) (V.faults device.new.volume) result }
-    ensures log_faults { FailsAs DeviceFault.Fault (V.log_faults device.old.volume) (V.log_faults device.new.volume)
-        result }
-    ensures log_fine { OnOk result (V.log_faults device.new.volume ≡ V.log_faults device.old.volume) }
 {
     let moment = device.append(&images)?;
     install_all(hand, images);
@@ -117,12 +86,14 @@ fn make_room<V: Volume>(device: &mut Device<V>, hand: &mut Hand) -> Result<(), T
     requires all { IfSome device.old.log (λ log. is_due log ≡ true → HoldsAll hand.old.parts.items) }
     requires own { AreOwn hand.old.parts.items }
     ensures kept { IsSome device.new.log }
-    ensures crash { Tells (MakesRoom device.old.log device.new.log hand.old.parts.items hand.new.parts.items
+    ensures crash { Tells (MakesRoom on_disk device.old.log device.new.log hand.old.parts.items hand.new.parts.items
         device.new.halted result) (V.story device.old.volume) (V.story device.new.volume) }
+    ensures read { Tells (MakesRoom as_read device.old.log device.new.log hand.old.parts.items hand.new.parts.items
+        device.new.halted result) (V.files device.old.volume) (V.files device.new.volume) }
     ensures room { OnOk result (LeavesRoom device.old.log device.new.log) }
     ensures halts { HaltsTend (V.faults device.new.volume) (V.log_faults device.old.volume)
         (V.log_faults device.new.volume) device.new.halted result }
-    ensures places { SamePlaces hand.old.parts.items hand.new.parts.items }
+    ensures tended { AreTended hand.old.parts.items hand.new.parts.items }
     ensures still { IfSome device.old.log (λ log. is_due log ≡ false → hand.new ≡ hand.old) }
     ensures faults { FailsAs TendFault.Fault (V.faults device.old.volume) (V.faults device.new.volume) result }
     ensures log_faults { V.log_faults device.old.volume ≤ V.log_faults device.new.volume }
@@ -143,28 +114,18 @@ fn commit_placed<V: Volume>(
     hand: &mut Hand,
     images: ImageList,
 ) -> Result<u64, OpFault>
-    requires open { IsSome device.old.log }
     requires fine { device.old.halted ≡ None }
-    requires some { 0 < length images }
-    requires few { length images ≤ MAX_WEIGHT }
-    requires rising { AreRising 0 images }
-    requires places { HavePlaces hand.old.parts.items images }
-    requires all { IfSome device.old.log (λ log. is_due log ≡ true → HoldsAll hand.old.parts.items) }
-    requires own { AreOwn hand.old.parts.items }
-    ensures kept { IsSome device.new.log }
-    ensures ended { IfOk result (λ moment. moment ≡ V.moment device.new.volume) }
-    ensures operation { Tells (Commits device.old.log device.new.log hand.old.parts.items hand.new.parts.items images
-        device.new.halted result) (V.story device.old.volume) (V.story device.new.volume) }
-    ensures halts { HaltsOp (V.faults device.new.volume) (V.log_faults device.old.volume)
-        (V.log_faults device.new.volume) device.old.log device.new.halted result }
+    requires needs { Needs HavePlaces device.old.log hand.old.parts.items images }
+    ensures operated { Operated V.moment V.faults V.log_faults device.old device.new result }
+    ensures operation { Tells (Commits on_disk device.old.log device.new.log hand.old.parts.items hand.new.parts.items
+        images device.new.halted result) (V.story device.old.volume) (V.story device.new.volume) }
+    ensures read { Tells (Commits as_read device.old.log device.new.log hand.old.parts.items hand.new.parts.items
+        images device.new.halted result) (V.files device.old.volume) (V.files device.new.volume) }
     ensures never { IsErrOf result OpFault.NoMemory → ⊥ }
     ensures slots { SamePlaces hand.old.parts.items hand.new.parts.items }
+    ensures contents { OnOk result (HaveFrom images hand.old.parts.items hand.new.parts.items) }
+    ensures no_more { OnErr result (HaveNoMore hand.old.parts.items hand.new.parts.items) }
     ensures still { OnErr result (IfSome device.old.log (λ log. is_due log ≡ false → hand.new ≡ hand.old)) }
-    ensures faults { (doubt : Option ℕ) → FailsAs (OpFault.Fault doubt) (V.faults device.old.volume)
-        (V.faults device.new.volume) result }
-    ensures log_faults { (doubt : ℕ) → FailsAs (OpFault.Fault (Some doubt)) (V.log_faults device.old.volume)
-        (V.log_faults device.new.volume) result }
-    ensures log_fine { OnOk result (V.log_faults device.new.volume ≡ V.log_faults device.old.volume) }
 {
     measure(&images);
     if let Err(fault) = make_room(device, hand) {
@@ -183,29 +144,18 @@ fn commit_all<V: Volume>(
     hand: &mut Hand,
     images: ImageList,
 ) -> Result<u64, OpFault>
-    requires open { IsSome device.old.log }
     requires fine { device.old.halted ≡ None }
-    requires some { 0 < length images }
-    requires few { length images ≤ MAX_WEIGHT }
-    requires rising { AreRising 0 images }
-    requires held { HaveParts hand.old.parts.items images }
-    requires all { IfSome device.old.log (λ log. is_due log ≡ true → HoldsAll hand.old.parts.items) }
-    requires own { AreOwn hand.old.parts.items }
-    ensures kept { IsSome device.new.log }
-    ensures ended { IfOk result (λ moment. moment ≡ V.moment device.new.volume) }
-    ensures operation { Tells (Commits device.old.log device.new.log hand.old.parts.items hand.new.parts.items images
-        device.new.halted result) (V.story device.old.volume) (V.story device.new.volume) }
-    ensures halts { HaltsOp (V.faults device.new.volume) (V.log_faults device.old.volume)
-        (V.log_faults device.new.volume) device.old.log device.new.halted result }
-    ensures memory { IsErrOf result OpFault.NoMemory → device.new ≡ device.old }
+    requires needs { Needs HaveParts device.old.log hand.old.parts.items images }
+    ensures operated { Operated V.moment V.faults V.log_faults device.old device.new result }
+    ensures operation { Tells (Commits on_disk device.old.log device.new.log hand.old.parts.items hand.new.parts.items
+        images device.new.halted result) (V.story device.old.volume) (V.story device.new.volume) }
+    ensures read { Tells (Commits as_read device.old.log device.new.log hand.old.parts.items hand.new.parts.items
+        images device.new.halted result) (V.files device.old.volume) (V.files device.new.volume) }
     ensures own { AreOwn hand.new.parts.items }
+    ensures contents { OnOk result (HaveFrom images hand.old.parts.items hand.new.parts.items) }
+    ensures no_more { OnErr result (HaveNoMore hand.old.parts.items hand.new.parts.items) }
     ensures dirty { OnErr result (IfSome device.old.log (λ log. is_due log ≡ false → (others : Dirty) (q : ℕ)
         → dirty_with others hand.new.parts.items q ≡ dirty_with others hand.old.parts.items q)) }
-    ensures faults { (doubt : Option ℕ) → FailsAs (OpFault.Fault doubt) (V.faults device.old.volume)
-        (V.faults device.new.volume) result }
-    ensures log_faults { (doubt : ℕ) → FailsAs (OpFault.Fault (Some doubt)) (V.log_faults device.old.volume)
-        (V.log_faults device.new.volume) result }
-    ensures log_fine { OnOk result (V.log_faults device.new.volume ≡ V.log_faults device.old.volume) }
 {
     let Ok(()) = reserve_all(hand, images.as_slice()) else {
         return Err(OpFault::NoMemory);
@@ -221,7 +171,8 @@ fn commit_all<V: Volume>(
 /// A crash at any moment leaves the pages from before, or those with the operation's. `Halted` comes exactly where the
 /// device is halted, and nothing has changed then, and after `NoMemory` the device is as it was. Where the append fails
 /// the device is halted, and the record that it would have made is in doubt. Where the checkpoint fails nothing is in
-/// doubt, and the device is halted where log work failed. After a refusal but `Halted` no place is without a dirty page.
+/// doubt, and the device is halted where log work failed. After a refusal but `Halted` no place is without a dirty
+/// page.
 ///
 /// [`CHECKPOINT_BYTES`]: ori_bytes::limits::CHECKPOINT_BYTES
 pub fn commit<V: Volume>(
@@ -229,32 +180,24 @@ pub fn commit<V: Volume>(
     hand: &mut Hand,
     images: ImageList,
 ) -> Result<u64, OpFault>
-    requires open { IsSome device.old.log }
-    requires some { 0 < length images }
-    requires few { length images ≤ MAX_WEIGHT }
-    requires rising { AreRising 0 images }
-    requires held { HaveParts hand.old.parts.items images }
-    requires all { IfSome device.old.log (λ log. is_due log ≡ true → HoldsAll hand.old.parts.items) }
-    requires own { AreOwn hand.old.parts.items }
-    ensures kept { IsSome device.new.log }
-    ensures ended { IfOk result (λ moment. moment ≡ V.moment device.new.volume) }
-    ensures operation { device.old.halted ≡ None → Tells (Commits device.old.log device.new.log hand.old.parts.items
-        hand.new.parts.items images device.new.halted result) (V.story device.old.volume)
+    requires { Needs HaveParts device.old.log hand.old.parts.items images }
+    ensures operated { Operated V.moment V.faults V.log_faults device.old device.new result }
+    ensures operation { device.old.halted ≡ None → Tells (Commits on_disk device.old.log device.new.log
+        hand.old.parts.items hand.new.parts.items images device.new.halted result) (V.story device.old.volume)
         (V.story device.new.volume) }
+    ensures read { device.old.halted ≡ None → Tells (Commits as_read device.old.log device.new.log
+        hand.old.parts.items hand.new.parts.items images device.new.halted result) (V.files device.old.volume)
+        (V.files device.new.volume) }
     ensures halted { (at_fault : ℕ) → device.old.halted ≡ Some at_fault
         → (result ≡ Err (OpFault.Halted at_fault)) × (device.new ≡ device.old) × (hand.new ≡ hand.old) }
-    ensures halts { device.old.halted ≡ None → HaltsOp (V.faults device.new.volume)
-        (V.log_faults device.old.volume) (V.log_faults device.new.volume) device.old.log device.new.halted result }
-    ensures memory { IsErrOf result OpFault.NoMemory → device.new ≡ device.old }
     ensures own { AreOwn hand.new.parts.items }
+    ensures contents { OnOk result (HaveFrom images hand.old.parts.items hand.new.parts.items) }
+    ensures no_more { OnErr result (HaveNoMore hand.old.parts.items hand.new.parts.items) }
     ensures dirty { OnErr result (IfSome device.old.log (λ log. is_due log ≡ false → (others : Dirty) (q : ℕ)
         → dirty_with others hand.new.parts.items q ≡ dirty_with others hand.old.parts.items q)) }
+    ensures held { (number : ℕ) → is_some (slice_index_or hand.new.parts.items number None)
+        ≡ is_some (slice_index_or hand.old.parts.items number None) }
     ensures trimmed { device.old.halted ≡ None → OnErr result (HaveNoBare hand.new.parts.items) }
-    ensures faults { (doubt : Option ℕ) → FailsAs (OpFault.Fault doubt) (V.faults device.old.volume)
-        (V.faults device.new.volume) result }
-    ensures log_faults { (doubt : ℕ) → FailsAs (OpFault.Fault (Some doubt)) (V.log_faults device.old.volume)
-        (V.log_faults device.new.volume) result }
-    ensures log_fine { OnOk result (V.log_faults device.new.volume ≡ V.log_faults device.old.volume) }
 {
     if let Some(at_fault) = device.halted() {
         return Err(OpFault::Halted { at_fault });

@@ -1,12 +1,12 @@
 // The device: a volume and its log.
-ghost use Rattle.std.specs.Prelude.{◌≡◌, ◌*◌, ◌<◌, ◌≤◌, ℕ, length, None, Ok, Err, IsSome, IfSome, IfOk, OnOk, OnErr};
-ghost use Rattle.std.specs.Prelude.{◌⊎◌, List, IfErr, IsErrOf};
+ghost use Rattle.std.specs.Prelude.{◌≡◌, ◌+◌, ◌*◌, ◌<◌, ◌≤◌, ℕ, length, None, Ok, Err, IsSome, IfSome, IfOk, OnOk};
+ghost use Rattle.std.specs.Prelude.{◌⊎◌, List, OnErr, IfErr, IsErrOf};
 ghost use Rattle.ori_bytes.specs.declared.limits.TheConstants.{MAX_LOG_BYTES, MAX_PAGES, MAX_WEIGHT, PAGE_BYTES};
 
 use crate::DeviceFault;
 use crate::home::{read_home, sync_homes, write_home};
 use crate::record::{put_record, switch_log};
-use ori_bytes::limits::{CHECKPOINT_BYTES, MAX_LOG_BYTES};
+use ori_bytes::limits::{CHECKPOINT_BYTES, MAX_LOG_BYTES, PAGE_BYTES};
 use ori_log::{ImageList, Log, LogFault};
 use ori_page::{Page, PageFault};
 use ori_volume::{Failed, FileNo, Volume};
@@ -28,15 +28,18 @@ impl<V: Volume> Device<V> {
     ghost use Rattle.ori_volume.specs.Story.{Tells, FilesWrite};
     ghost use Rattle.ori_log.specs.Images.{AreRising};
     ghost use Rattle.ori_log.specs.Forms.{BreaksFirst};
+    ghost use Rattle.ori_log.specs.Log.{pages_at_home};
     ghost use Rattle.ori_log.specs.Appending.{need_of, room_of, FailsAs};
+    ghost use Rattle.ori_log.specs.Attaching.{IsKeptOrMade};
     ghost use Rattle.ori_log.specs.declared.fault.LogFault.{LogFault};
     ghost use Rattle.ori_volume.specs.OnlyRead.{IsOnlyRead};
     ghost use Rattle.ori_page.specs.declared.fault.PageFault.{PageFault};
     ghost use Rattle.ori_cover.specs.Homes.{IsHome};
-    ghost use Rattle.ori_cover.specs.Reading.{WritesHomeRead};
-    ghost use Rattle.ori_cover.specs.Steps.{WritesHome, SyncsHomes};
+    ghost use Rattle.ori_cover.specs.Reading.{WritesHomeRead, SyncsHomesRead, PutsRecordRead, SwitchesLogRead};
+    ghost use Rattle.ori_cover.specs.Steps.{WritesHome, SyncsHomes, PutsRecord, SwitchesLog};
     ghost use Rattle.ori_pool.specs.declared.fault.DeviceFault.{DeviceFault};
-    ghost use Rattle.ori_pool.specs.Devices.{Opens, Puts, Switches, Halts, is_due};
+    ghost use Rattle.ori_pool.specs.Operating.{Worked};
+    ghost use Rattle.ori_pool.specs.Devices.{Opens, OpensRead, OnLog, Puts, Switches, Halts, is_due};
 
     /// A volume whose log isn't attached yet.
     pub fn of(volume: V) -> Self
@@ -58,10 +61,19 @@ impl<V: Volume> Device<V> {
         self.volume
     }
 
-    /// Attaches the log, and lists the last image of each page in its tail, pages rising. Refused as
-    /// [`Log::attach`] is, and there is no log then where there was none.
+    /// Attaches the log, and lists the last image of each page in its tail, pages rising: these are the dirty pages
+    /// then, and a hand is to install them into partitions without a page. A device that has a log, halted or not, gets
+    /// it anew, and isn't halted after it. Refused as [`Log::attach`] is: the device then has the log that it had, and
+    /// is halted where it was.
     pub fn open(&mut self, alloc: Global) -> Result<ImageList, LogFault>
         ensures crash { Tells (Opens result self.new.log) (V.story self.old.volume) (V.story self.new.volume) }
+        ensures read { OnOk result (Tells (OpensRead result self.new.log) (V.files self.old.volume)
+            (V.files self.new.volume)) }
+        ensures open { OnOk result (IsSome self.new.log) }
+        ensures rising { IfOk result (λ images. AreRising 0 images) }
+        ensures files { OnOk result (Tells IsKeptOrMade (V.files self.old.volume) (V.files self.new.volume)) }
+        ensures refused { (file : FileNo) → IsErrOf result (LogFault.NotALog file)
+            → V.files self.new.volume ≡ V.files self.old.volume }
         ensures halted { OnOk result (self.new.halted ≡ None) }
         ensures log { OnErr result ((self.new.log ≡ self.old.log) × (self.new.halted ≡ self.old.halted)) }
         ensures not_a_log { (file : FileNo) → IsErrOf result (LogFault.NotALog file)
@@ -75,6 +87,25 @@ impl<V: Volume> Device<V> {
         self.log = Some(log);
         self.halted = None;
         Ok(images)
+    }
+
+    /// The number of the volume's moment.
+    pub fn moment(&self) -> u64
+        ensures { result ≡ V.moment self.now.volume }
+    {
+        self.volume.moment()
+    }
+
+    /// How many pages have a byte at home. `Failed` halts nothing.
+    pub fn pages_at_home(&mut self) -> Result<u64, Failed>
+        ensures value { IfOk result (λ count. IfSome (V.files self.old.volume)
+            (λ fs. count ≡ pages_at_home fs.pages)) }
+        ensures read { IsOnlyRead V.files V.story V.moment V.log_faults self.old.volume self.new.volume }
+        ensures same { (self.new.log ≡ self.old.log) × (self.new.halted ≡ self.old.halted) }
+        ensures faults { HasCause (V.faults self.old.volume) (V.faults self.new.volume) result }
+    {
+        let length = self.volume.len(FileNo::Pages)?;
+        Ok(length.div_ceil(PAGE_BYTES as u64))
     }
 
     /// The number of records in the log, or 0 where there is none.
@@ -130,16 +161,12 @@ impl<V: Volume> Device<V> {
         requires few { length images.now ≤ MAX_WEIGHT }
         requires rising { AreRising 0 images.now }
         requires fits { IfSome self.old.log (λ log. need_of images.now ≤ room_of log) }
-        ensures kept { IsSome self.new.log }
-        ensures ended { IfOk result (λ moment. moment ≡ V.moment self.new.volume) }
-        ensures halts { Halts (V.faults self.new.volume) self.old.halted self.new.halted result }
-        ensures halted { IsSome self.old.halted → self.new ≡ self.old }
-        ensures crash { self.old.halted ≡ None → Tells (Puts self.old.log self.new.log images.now result)
+        ensures answers { Worked V.moment V.faults V.log_faults self.old self.new result }
+        ensures crash { self.old.halted ≡ None → Tells (Puts PutsRecord self.old.log self.new.log images.now result)
             (V.story self.old.volume) (V.story self.new.volume) }
-        ensures faults { FailsAs DeviceFault.Fault (V.faults self.old.volume) (V.faults self.new.volume) result }
-        ensures log_faults { FailsAs DeviceFault.Fault (V.log_faults self.old.volume) (V.log_faults self.new.volume)
-            result }
-        ensures log_fine { OnOk result (V.log_faults self.new.volume ≡ V.log_faults self.old.volume) }
+        ensures read { self.old.halted ≡ None → Tells (Puts PutsRecordRead self.old.log self.new.log images.now result)
+            (V.files self.old.volume) (V.files self.new.volume) }
+        ensures counts { OnOk result (OnLog (λ log now. now.tail ≡ log.tail + 1) self.old.log self.new.log) }
     {
         if let Some(at_fault) = self.halted {
             return Err(DeviceFault::Halted { at_fault });
@@ -156,17 +183,12 @@ impl<V: Volume> Device<V> {
     /// it.
     pub fn switch(&mut self) -> Result<u64, DeviceFault>
         requires open { IsSome self.old.log }
-        ensures kept { IsSome self.new.log }
+        ensures answers { Worked V.moment V.faults V.log_faults self.old self.new result }
         ensures empty { OnOk result (IfSome self.new.log (λ log. (log.tail ≡ 0) × (log.place ≡ 0))) }
-        ensures ended { IfOk result (λ moment. moment ≡ V.moment self.new.volume) }
-        ensures halts { Halts (V.faults self.new.volume) self.old.halted self.new.halted result }
-        ensures halted { IsSome self.old.halted → self.new ≡ self.old }
-        ensures crash { self.old.halted ≡ None → Tells (Switches self.old.log self.new.log result)
+        ensures crash { self.old.halted ≡ None → Tells (Switches SwitchesLog self.old.log self.new.log result)
             (V.story self.old.volume) (V.story self.new.volume) }
-        ensures faults { FailsAs DeviceFault.Fault (V.faults self.old.volume) (V.faults self.new.volume) result }
-        ensures log_faults { FailsAs DeviceFault.Fault (V.log_faults self.old.volume) (V.log_faults self.new.volume)
-            result }
-        ensures log_fine { OnOk result (V.log_faults self.new.volume ≡ V.log_faults self.old.volume) }
+        ensures read { self.old.halted ≡ None → Tells (Switches SwitchesLogRead self.old.log self.new.log result)
+            (V.files self.old.volume) (V.files self.new.volume) }
     {
         if let Some(at_fault) = self.halted {
             return Err(DeviceFault::Halted { at_fault });
@@ -213,6 +235,7 @@ impl<V: Volume> Device<V> {
     pub fn sync_homes(&mut self) -> Result<(), Failed>
         ensures files { V.files self.new.volume ≡ V.files self.old.volume }
         ensures crash { Tells (SyncsHomes result) (V.story self.old.volume) (V.story self.new.volume) }
+        ensures read { Tells (SyncsHomesRead result) (V.files self.old.volume) (V.files self.new.volume) }
         ensures same { (self.new.log ≡ self.old.log) × (self.new.halted ≡ self.old.halted) }
         ensures faults { HasCause (V.faults self.old.volume) (V.faults self.new.volume) result }
         ensures log_faults { V.log_faults self.new.volume ≡ V.log_faults self.old.volume }

@@ -5,9 +5,10 @@ ghost use Rattle.ori_log.specs.Appending.{FailsAs};
 ghost use Rattle.ori_pool.specs.declared.fault.DeviceFault.{DeviceFault};
 ghost use Rattle.ori_pool.specs.declared.fault.TendFault.{TendFault};
 ghost use Rattle.ori_pool.specs.Finishes.{AreWritten, Finishes, Checkpoints};
-ghost use Rattle.ori_pool.specs.Held.{dirty_with, HoldsAll, AreOwn, SamePlaces};
-ghost use Rattle.ori_pool.specs.Devices.{HaltsTend};
+ghost use Rattle.ori_pool.specs.Held.{dirty_with, HoldsAll, AreOwn, AreTended};
+ghost use Rattle.ori_pool.specs.Operating.{Tended};
 ghost use Rattle.ori_cover.specs.Dirty.{Dirty, AreClean};
+ghost use Rattle.ori_cover.specs.Views.{on_disk, as_read};
 
 use crate::sending::send_home;
 use crate::settling::settle;
@@ -31,21 +32,18 @@ fn refused(fault: DeviceFault) -> TendFault
 pub fn finish<V: Volume>(device: &mut Device<V>, hand: &mut Hand) -> Result<u64, TendFault>
     requires open { IsSome device.old.log }
     requires all { HoldsAll hand.old.parts.items }
-    ensures ended { IfOk result (λ moment. moment ≡ V.moment device.new.volume) }
-    ensures crash { device.old.halted ≡ None → Tells (Finishes device.old.log device.new.log hand.old.parts.items
-        hand.new.parts.items device.new.halted result) (V.story device.old.volume) (V.story device.new.volume) }
+    ensures answers { Tended V.moment V.faults V.log_faults device.old device.new result }
+    ensures crash { device.old.halted ≡ None → Tells (Finishes on_disk device.old.log device.new.log
+        hand.old.parts.items hand.new.parts.items device.new.halted result) (V.story device.old.volume)
+        (V.story device.new.volume) }
+    ensures read { device.old.halted ≡ None → Tells (Finishes as_read device.old.log device.new.log
+        hand.old.parts.items hand.new.parts.items device.new.halted result) (V.files device.old.volume)
+        (V.files device.new.volume) }
     ensures clean { OnOk result ((others : Dirty) → AreWritten (dirty_with others hand.old.parts.items)
         → AreClean (dirty_with others hand.new.parts.items)) }
-    ensures kept { IsSome device.new.log }
-    ensures empty { OnOk result (IfSome device.new.log (λ log. (log.tail ≡ 0) × (log.place ≡ 0))) }
-    ensures halts { device.old.halted ≡ None → HaltsTend (V.faults device.new.volume)
-        (V.log_faults device.old.volume) (V.log_faults device.new.volume) device.new.halted result }
-    ensures places { SamePlaces hand.old.parts.items hand.new.parts.items }
+    ensures tended { AreTended hand.old.parts.items hand.new.parts.items }
     ensures halted { (at_fault : ℕ) → device.old.halted ≡ Some at_fault
         → (result ≡ Err (TendFault.Halted at_fault)) × (device.new ≡ device.old) × (hand.new ≡ hand.old) }
-    ensures faults { FailsAs TendFault.Fault (V.faults device.old.volume) (V.faults device.new.volume) result }
-    ensures log_faults { V.log_faults device.old.volume ≤ V.log_faults device.new.volume }
-    ensures log_fine { OnOk result (V.log_faults device.new.volume ≡ V.log_faults device.old.volume) }
 {
     if let Some(at_fault) = device.halted() {
         return Err(TendFault::Halted { at_fault });
@@ -59,9 +57,9 @@ pub fn finish<V: Volume>(device: &mut Device<V>, hand: &mut Hand) -> Result<u64,
     }
 }
 
-/// Makes a checkpoint, whose hand holds all partitions: writes each unwritten page home, makes the homes firm, leaves no
-/// page dirty, and makes the other file the log, without records. It answers the moment at which that ended. Takes no
-/// memory but what clean pages may use.
+/// Makes a checkpoint, whose hand holds all partitions: writes each unwritten page home, makes the homes firm, leaves
+/// no page dirty, and makes the other file the log, without records. It answers the moment at which that ended. Takes
+/// no memory but what clean pages may use.
 ///
 /// A crash at any moment leaves the pages as they are. `Halted` comes exactly where the device is halted, and nothing
 /// has changed then. A home's write or sync that fails halts nothing: the pages that were written before it are marked,
@@ -70,20 +68,17 @@ pub fn checkpoint<V: Volume>(device: &mut Device<V>, hand: &mut Hand) -> Result<
     requires open { IsSome device.old.log }
     requires all { HoldsAll hand.old.parts.items }
     requires own { AreOwn hand.old.parts.items }
-    ensures ended { IfOk result (λ moment. moment ≡ V.moment device.new.volume) }
-    ensures crash { device.old.halted ≡ None → Tells (Checkpoints device.old.log device.new.log hand.old.parts.items
-        hand.new.parts.items device.new.halted result) (V.story device.old.volume) (V.story device.new.volume) }
+    ensures answers { Tended V.moment V.faults V.log_faults device.old device.new result }
+    ensures crash { device.old.halted ≡ None → Tells (Checkpoints on_disk device.old.log device.new.log
+        hand.old.parts.items hand.new.parts.items device.new.halted result) (V.story device.old.volume)
+        (V.story device.new.volume) }
+    ensures read { device.old.halted ≡ None → Tells (Checkpoints as_read device.old.log device.new.log
+        hand.old.parts.items hand.new.parts.items device.new.halted result) (V.files device.old.volume)
+        (V.files device.new.volume) }
     ensures clean { OnOk result ((others : Dirty) → AreClean (dirty_with others hand.new.parts.items)) }
-    ensures kept { IsSome device.new.log }
-    ensures empty { OnOk result (IfSome device.new.log (λ log. (log.tail ≡ 0) × (log.place ≡ 0))) }
-    ensures halts { device.old.halted ≡ None → HaltsTend (V.faults device.new.volume)
-        (V.log_faults device.old.volume) (V.log_faults device.new.volume) device.new.halted result }
     ensures halted { (at_fault : ℕ) → device.old.halted ≡ Some at_fault
         → (result ≡ Err (TendFault.Halted at_fault)) × (device.new ≡ device.old) × (hand.new ≡ hand.old) }
-    ensures places { SamePlaces hand.old.parts.items hand.new.parts.items }
-    ensures faults { FailsAs TendFault.Fault (V.faults device.old.volume) (V.faults device.new.volume) result }
-    ensures log_faults { V.log_faults device.old.volume ≤ V.log_faults device.new.volume }
-    ensures log_fine { OnOk result (V.log_faults device.new.volume ≡ V.log_faults device.old.volume) }
+    ensures tended { AreTended hand.old.parts.items hand.new.parts.items }
 {
     if let Some(at_fault) = device.halted() {
         return Err(TendFault::Halted { at_fault });

@@ -3,7 +3,7 @@ ghost use Rattle.std.specs.Prelude.{◌≡◌, ◌<◌, ℕ, List, Some, None, O
 ghost use Rattle.ori_bytes.specs.declared.limits.TheConstants.{MAX_PAGES};
 ghost use Rattle.ori_volume.specs.Causes.{HasCause};
 ghost use Rattle.ori_volume.specs.Story.{Tells};
-ghost use Rattle.ori_part.specs.Parts.{marked, has_place, unwritten_page};
+ghost use Rattle.ori_part.specs.Parts.{marked, has_place, unwritten_page, HoldsNoMore};
 ghost use Rattle.ori_cover.specs.Dirty.{unwritten, IsMarked};
 ghost use Rattle.ori_cover.specs.Homes.{IsHome};
 ghost use Rattle.ori_cover.specs.Reading.{WritesHomeRead};
@@ -48,12 +48,15 @@ pub(crate) fn flush_first<V: Volume>(
     part: &mut Part,
 ) -> Result<bool, Failed>
     requires below { (page : ℕ) → has_place part.old page ≡ true → page < MAX_PAGES }
-    ensures crash { Tells (FlushesFirst part.old part.new result) (V.story device.old.volume)
+    ensures crash { Tells (FlushesFirst WritesHome part.old part.new result) (V.story device.old.volume)
         (V.story device.new.volume) }
+    ensures read { Tells (FlushesFirst WritesHomeRead part.old part.new result) (V.files device.old.volume)
+        (V.files device.new.volume) }
     ensures none { result ≡ Ok false → (unwritten_page part.old.places ≡ None) × (part.new ≡ part.old)
         × (device.new ≡ device.old) }
     ensures fewer { result ≡ Ok true → unsent_in (Some part.new) < unsent_in (Some part.old) }
     ensures places { (page : ℕ) → has_place part.new page ≡ has_place part.old page }
+    ensures contents { HoldsNoMore part.old part.new }
     ensures err { OnErr result (part.new ≡ part.old) }
     ensures same { (device.new.log ≡ device.old.log) × (device.new.halted ≡ device.old.halted) }
     ensures faults { HasCause (V.faults device.old.volume) (V.faults device.new.volume) result }

@@ -1,15 +1,16 @@
 // The partitions that a call has taken.
 ghost use Rattle.std.specs.Prelude.{◌≡◌, ◌≢◌, ◌==◌, ◌%◌, ◌<◌, ℕ, length, if◌then◌else◌, true};
-ghost use Rattle.std.specs.Prelude.{None, Some, is_some, slice_index_or, OnOk, IsSome};
+ghost use Rattle.std.specs.Prelude.{None, Some, is_some, slice_index_or, replicate, IfOk, OnOk, IsSome};
 ghost use Rattle.ori_bytes.specs.declared.limits.TheConstants.{PARTITIONS, MAX_PAGES};
 ghost use Rattle.ori_cover.specs.Dirty.{Dirty, unwritten};
 ghost use Rattle.ori_pool.specs.Held.{held_at, in_place, dirty_with, IsSettledHeld, AreSettledHeld, AreOwn};
-ghost use Rattle.ori_pool.specs.Held.{IsTrimmedHeld, AreTrimmed, SamePlaces};
+ghost use Rattle.ori_pool.specs.Held.{IsTrimmedHeld, AreTrimmed, SamePlaces, HaveNoMore, HaveFrom, one_image};
 
 use ori_bytes::NoMemory;
 use ori_bytes::limits::PARTITIONS;
 use ori_page::Page;
 use ori_part::Part;
+use std::alloc::Global;
 
 /// The partitions that a call has taken, each at its number's place: page p is in partition p mod [`PARTITIONS`].
 #[derive(Drop)]
@@ -27,6 +28,17 @@ fn number(page: u32) -> usize
 }
 
 impl Hand {
+    /// One that holds no partition.
+    pub fn empty(alloc: Global) -> Result<Hand, NoMemory>
+        ensures { IfOk result (λ hand. hand.parts.items ≡ replicate PARTITIONS None) }
+    {
+        let mut parts = Vec::new(alloc);
+        for _ in 0..PARTITIONS {
+            parts.push(None)?;
+        }
+        Ok(Hand { parts })
+    }
+
     /// Makes a place for a page among the dirty ones of its partition, which the hand holds. If out of memory there is
     /// none where there was none.
     pub fn reserve(&mut self, page: u32) -> Result<(), NoMemory>
@@ -37,6 +49,7 @@ impl Hand {
         ensures held { (q : ℕ) → is_some (held_at self.new.parts.items q) ≡ is_some (held_at self.old.parts.items q) }
         ensures dirty { (others : Dirty) (q : ℕ)
             → dirty_with others self.new.parts.items q ≡ dirty_with others self.old.parts.items q }
+        ensures contents { HaveNoMore self.old.parts.items self.new.parts.items }
     {
         let at = number(page);
         let Some(mut part) = self.parts[at].take() else {
@@ -54,6 +67,7 @@ impl Hand {
         ensures slots { SamePlaces self.old.parts.items self.new.parts.items }
         ensures dirty { (others : Dirty) (q : ℕ) → dirty_with others self.new.parts.items q
             ≡ (if q == page then Some (unwritten content) else dirty_with others self.old.parts.items q) }
+        ensures contents { HaveFrom (one_image page content) self.old.parts.items self.new.parts.items }
     {
         let at = number(page);
         if let Some(mut part) = self.parts[at].take() {

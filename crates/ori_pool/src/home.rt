@@ -8,7 +8,7 @@ ghost use Rattle.ori_volume.specs.OnlyRead.{IsOnlyRead};
 ghost use Rattle.ori_page.specs.declared.fault.PageFault.{PageFault};
 ghost use Rattle.ori_log.specs.Appending.{FailsAs};
 ghost use Rattle.ori_cover.specs.Homes.{IsHome};
-ghost use Rattle.ori_cover.specs.Reading.{WritesHomeRead};
+ghost use Rattle.ori_cover.specs.Reading.{WritesHomeRead, SyncsHomesRead};
 ghost use Rattle.ori_cover.specs.Steps.{WritesHome, SyncsHomes};
 
 use ori_bytes::limits::PAGE_BYTES;
@@ -38,6 +38,7 @@ pub(crate) fn write_home<V: Volume>(volume: &mut V, page: u32, content: &Page) -
 pub(crate) fn sync_homes<V: Volume>(volume: &mut V) -> Result<(), Failed>
     ensures files { V.files volume.new ≡ V.files volume.old }
     ensures crash { Tells (SyncsHomes result) (V.story volume.old) (V.story volume.new) }
+    ensures read { Tells (SyncsHomesRead result) (V.files volume.old) (V.files volume.new) }
     ensures faults { HasCause (V.faults volume.old) (V.faults volume.new) result }
     ensures log_faults { V.log_faults volume.new ≡ V.log_faults volume.old }
 {

@@ -3,7 +3,8 @@ ghost use Rattle.std.specs.Prelude.{◌≡◌, ◌≢◌, ◌<◌, ℕ, Ok, None
 ghost use Rattle.ori_bytes.specs.declared.limits.TheConstants.{PARTITIONS};
 ghost use Rattle.ori_volume.specs.Causes.{HasCause};
 ghost use Rattle.ori_volume.specs.Story.{Tells};
-ghost use Rattle.ori_pool.specs.Held.{AreOwn, SamePlaces, IsSent, AreSent, unsent_in};
+ghost use Rattle.ori_pool.specs.Held.{AreOwn, AreTended, IsSent, AreSent, unsent_in};
+ghost use Rattle.ori_cover.specs.Views.{on_disk, as_read};
 ghost use Rattle.ori_pool.specs.Sends.{Sends};
 
 use crate::flushing::flush_first;
@@ -14,14 +15,16 @@ use ori_volume::{Failed, Volume};
 fn send_next<V: Volume>(device: &mut Device<V>, hand: &mut Hand, at: usize) -> Result<bool, Failed>
     requires within { at < PARTITIONS }
     requires own { AreOwn hand.old.parts.items }
-    ensures crash { Tells (Sends hand.old.parts.items hand.new.parts.items) (V.story device.old.volume)
+    ensures crash { Tells (Sends on_disk hand.old.parts.items hand.new.parts.items) (V.story device.old.volume)
         (V.story device.new.volume) }
+    ensures read { Tells (Sends as_read hand.old.parts.items hand.new.parts.items) (V.files device.old.volume)
+        (V.files device.new.volume) }
     ensures none { result ≡ Ok false → IsSent (slice_index_or hand.new.parts.items at None) }
     ensures fewer { result ≡ Ok true → unsent_in (slice_index_or hand.new.parts.items at None)
         < unsent_in (slice_index_or hand.old.parts.items at None) }
     ensures others { (k : ℕ) → k ≢ at
         → slice_index_or hand.new.parts.items k None ≡ slice_index_or hand.old.parts.items k None }
-    ensures places { SamePlaces hand.old.parts.items hand.new.parts.items }
+    ensures tended { AreTended hand.old.parts.items hand.new.parts.items }
     ensures same { (device.new.log ≡ device.old.log) × (device.new.halted ≡ device.old.halted) }
     ensures faults { HasCause (V.faults device.old.volume) (V.faults device.new.volume) result }
     ensures log_faults { V.log_faults device.new.volume ≡ V.log_faults device.old.volume }
@@ -38,12 +41,14 @@ fn send_next<V: Volume>(device: &mut Device<V>, hand: &mut Hand, at: usize) -> R
 fn send_part<V: Volume>(device: &mut Device<V>, hand: &mut Hand, at: usize) -> Result<(), Failed>
     requires within { at < PARTITIONS }
     requires own { AreOwn hand.old.parts.items }
-    ensures crash { Tells (Sends hand.old.parts.items hand.new.parts.items) (V.story device.old.volume)
+    ensures crash { Tells (Sends on_disk hand.old.parts.items hand.new.parts.items) (V.story device.old.volume)
         (V.story device.new.volume) }
+    ensures read { Tells (Sends as_read hand.old.parts.items hand.new.parts.items) (V.files device.old.volume)
+        (V.files device.new.volume) }
     ensures sent { OnOk result (IsSent (slice_index_or hand.new.parts.items at None)) }
     ensures others { (k : ℕ) → k ≢ at
         → slice_index_or hand.new.parts.items k None ≡ slice_index_or hand.old.parts.items k None }
-    ensures places { SamePlaces hand.old.parts.items hand.new.parts.items }
+    ensures tended { AreTended hand.old.parts.items hand.new.parts.items }
     ensures same { (device.new.log ≡ device.old.log) × (device.new.halted ≡ device.old.halted) }
     ensures faults { HasCause (V.faults device.old.volume) (V.faults device.new.volume) result }
     ensures log_faults { V.log_faults device.new.volume ≡ V.log_faults device.old.volume }
@@ -57,10 +62,12 @@ fn send_part<V: Volume>(device: &mut Device<V>, hand: &mut Hand, at: usize) -> R
 /// stay unwritten: nothing is halted, and the log stands over the pages as before.
 pub fn send_home<V: Volume>(device: &mut Device<V>, hand: &mut Hand) -> Result<(), Failed>
     requires own { AreOwn hand.old.parts.items }
-    ensures crash { Tells (Sends hand.old.parts.items hand.new.parts.items) (V.story device.old.volume)
+    ensures crash { Tells (Sends on_disk hand.old.parts.items hand.new.parts.items) (V.story device.old.volume)
         (V.story device.new.volume) }
+    ensures read { Tells (Sends as_read hand.old.parts.items hand.new.parts.items) (V.files device.old.volume)
+        (V.files device.new.volume) }
     ensures sent { OnOk result (AreSent PARTITIONS hand.new.parts.items) }
-    ensures places { SamePlaces hand.old.parts.items hand.new.parts.items }
+    ensures tended { AreTended hand.old.parts.items hand.new.parts.items }
     ensures same { (device.new.log ≡ device.old.log) × (device.new.halted ≡ device.old.halted) }
     ensures faults { HasCause (V.faults device.old.volume) (V.faults device.new.volume) result }
     ensures log_faults { V.log_faults device.new.volume ≡ V.log_faults device.old.volume }

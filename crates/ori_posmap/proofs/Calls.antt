@@ -23,7 +23,7 @@ use Rattle.ori_posmap.specs.Bytes.{map_page, is_directory, next_map_on}
 use Rattle.ori_posmap.specs.Reading.{WhyNotRead}
 use Rattle.ori_posmap.specs.Maps.{PositionMap, place_of, map_at, EntryFits, entry_for, IsPositionMap, has_directory}
 use Rattle.ori_posmap.specs.Maps.{has_map, IsFound, IsSet, IsGrown, IsAppended, HasRoom, WhyTaken}
-use Rattle.ori_posmap.specs.Maps.{WhyGrown, WhyAppended, TellsNoRoom, IsNamed, HasNext, HasNoNext}
+use Rattle.ori_posmap.specs.Maps.{WhyMap, WhySet, WhyGrown, WhyAppended, TellsNoRoom, IsNamed, HasNext, HasNoNext}
 use Rattle.ori_posmap.proofs.Mapping.{dir_is, dir_room, has_dir, map_is, number_is, pos_is, never_place}
 use Rattle.ori_posmap.proofs.Owners.{patched_length, patched_read, patched_next}
 use Rattle.ori_posmap.proofs.Spelling.{map_reads, map_kind}
@@ -58,6 +58,14 @@ why_dir_grown pages dir (Damaged page) h =
 why_dir_grown pages dir PagesFull h = absurd h
 
 -- ---- set
+
+pub why_set : (pages : List (List ℕ)) (dir : ℕ) (position : ℤ) (fault : PageFault) → WhyMap pages dir fault
+    → WhySet pages dir position fault
+why_set pages dir position NoMemory h = tt
+why_set pages dir position Device h = tt
+why_set pages dir position (Busy turn) h = h
+why_set pages dir position (Damaged page) h = (h.0, λ m i live. h.1 m i)
+why_set pages dir position PagesFull h = absurd h
 
 pub not_live : (m : PositionMap) (position : ℤ) → ((q : ℕ) → position ≡ pos q → length m.entries ≤ q)
     → IsSome (place_of m position) → ⊥

@@ -172,6 +172,15 @@ WhyMap pages dir (Damaged page) =
     IsNamed pages dir page × ((m : PositionMap) → IsPositionMap pages dir m → ⊥)
 WhyMap pages dir PagesFull = ⊥
 
+-- The same where a position is set: Damaged too where the position isn't live.
+abbrev pub WhySet : List (List ℕ) → ℕ → ℤ → PageFault → Type 0
+WhySet pages dir position NoMemory = Unit {0}
+WhySet pages dir position Device = Unit {0}
+WhySet pages dir position (Busy turn) = turn ≤ PARTITIONS
+WhySet pages dir position (Damaged page) = IsNamed pages dir page
+    × ((m : PositionMap) → IsPositionMap pages dir m → IsSome (place_of m position) → ⊥)
+WhySet pages dir position PagesFull = ⊥
+
 -- ---- the pages that a call names
 
 abbrev pub has_directory : List (List ℕ) → ℕ → Bool

@@ -1,5 +1,5 @@
 // What a position map says.
-ghost use Rattle.std.specs.Prelude.{◌≡◌, ◌≤◌, ℕ, List, pos, length, IfOk, IfErr};
+ghost use Rattle.std.specs.Prelude.{◌≡◌, ◌≢◌, ◌≤◌, ℕ, List, pos, length, IfOk, IfErr};
 ghost use Rattle.ori_posmap.specs.Reading.{KeepsSpace};
 ghost use Rattle.ori_posmap.specs.Maps.{PositionMap, place_of, IsPositionMap, WhyMap};
 
@@ -34,6 +34,7 @@ pub fn tell<P: PageSpace>(space: &mut P, dir: u32) -> Result<Told, PageFault>
     ensures pages { IfOk result (λ told. (pages : List (List ℕ)) → P.gives space.old pages → P.gives space.new pages
         × ((m : PositionMap) → IsPositionMap pages dir m
         → (told.owner ≡ m.owner) × (told.next ≡ pos (length m.entries)) × (told.current ≡ m.current))) }
+    ensures owner { IfOk result (λ told. told.owner ≢ 0) }
     ensures why { IfErr result (λ fault. (pages : List (List ℕ)) → P.gives space.old pages
         → WhyMap pages dir fault) }
     ensures space { KeepsSpace P.keeps P.count P.causes P.reads 1 result space.old space.new }

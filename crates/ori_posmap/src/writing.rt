@@ -1,15 +1,15 @@
 // How a position map changes.
 ghost use Rattle.std.specs.Prelude.{◌≡◌, ◌≢◌, ◌+◌, ◌*◌, ◌<◌, ◌≤◌, ℕ, List, pos, length, slice_set, IfOk, IfErr};
 ghost use Rattle.std.specs.Prelude.{IfSome, OnOk};
-ghost use Rattle.std.specs.Prelude.{IsSome, IsErrOf, true};
+ghost use Rattle.std.specs.Prelude.{IsErrOf, true};
 ghost use Rattle.ori_bytes.specs.declared.limits.TheConstants.{MAP_ENTRIES, MAX_MAP_PAGES, MAX_POSITIONS};
 ghost use Rattle.ori_page.specs.Pages.{owner_of};
 ghost use Rattle.ori_page.specs.Spaces.{page_at};
 ghost use Rattle.ori_posmap.specs.Bytes.{next_on, map_count_on, is_directory, patched, entry_place, entry_bytes};
 ghost use Rattle.ori_posmap.specs.Reading.{WhyNotRead, KeepsSpace};
-ghost use Rattle.ori_posmap.specs.Maps.{PositionMap, place_of, IsPositionMap, IsFounded, IsSet, IsCurrent, IsGrown};
+ghost use Rattle.ori_posmap.specs.Maps.{PositionMap, IsPositionMap, IsFounded, IsSet, IsCurrent, IsGrown};
 ghost use Rattle.ori_posmap.specs.Maps.{IsAppended, IsPushed, HasRoom, has_map, WhyMap, WhyAppended, WhyTaken};
-ghost use Rattle.ori_posmap.specs.Maps.{WhyGrown, WhyPushed, TellsNoRoom, TellsFull};
+ghost use Rattle.ori_posmap.specs.Maps.{WhyGrown, WhyPushed, WhySet, TellsNoRoom, TellsFull};
 ghost use Rattle.ori_posmap.specs.declared.fault.PosFault.{PosFault};
 ghost use Rattle.ori_posmap.specs.Maps.{page_result, HasNext};
 
@@ -33,20 +33,19 @@ pub fn found<P: PageSpace>(space: &mut P, owner: u32) -> Result<u32, PageFault>
 }
 
 /// The place of a live position is this now, or the position is gone. `Damaged` only where the pages don't stand for a
-/// map.
+/// map, or the position isn't live.
+#[tactic(auto, using(crate::proofs::Calls::why_set))]
 pub fn set<P: PageSpace>(
     space: &mut P,
     dir: u32,
     position: i64,
     place: Option<Place>,
 ) -> Result<(), PageFault>
-    requires { (pages : List (List ℕ)) → P.gives space.old pages → (m : PositionMap) → IsPositionMap pages dir m
-        → IsSome (place_of m position) }
     ensures pages { OnOk result ((pages : List (List ℕ)) → P.gives space.old pages
         → (after : List (List ℕ)) × P.gives space.new after × ((m : PositionMap) → IsPositionMap pages dir m
         → (q : ℕ) → position ≡ pos q → IsSet dir m q place pages after)) }
     ensures why { IfErr result (λ fault. (pages : List (List ℕ)) → P.gives space.old pages
-        → WhyMap pages dir fault) }
+        → WhySet pages dir position fault) }
     ensures space { KeepsSpace P.keeps P.count P.causes P.reads 2 result space.old space.new }
 {
     let found = match find(space, dir, position)? {

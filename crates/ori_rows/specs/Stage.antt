@@ -23,8 +23,8 @@ head_page count = filled (page_head HEAD_OWNER HEAD_KIND ++ to_be_bytes w32 STAG
 abbrev pub record_page : List ℕ → List ℕ
 record_page bytes = filled (page_head FIRST_CLUSTER_OWNER SLOTS_KIND ++ to_be_bytes w16 (length bytes) ++ bytes)
 
--- The page of a position, where the base has this record there or none. A record has no bags yet, and a page of one with
--- bags is no database's.
+-- The page of a position, where the base has this record there or none. A record has no bags yet, and a page of one
+-- with bags is no database's.
 abbrev pub IsPageOf : List ℕ → Option RecordData → Type 0
 IsPageOf page None = page ≡ record_page []
 IsPageOf page (Some r) = (bytes : List ℕ) × Spells bytes r [] × (page ≡ record_page bytes)

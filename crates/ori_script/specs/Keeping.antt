@@ -11,7 +11,8 @@ use Rattle.ori_spec_data.specs.Replies.{ReplyData, halted, unbuilt}
 use Rattle.ori_spec_data.specs.Views.{ViewData}
 use Rattle.ori_spec_texts.specs.Line.{LineData, statement, tries, step, StepData, flush, settle, checkpoint, reopen}
 use Rattle.ori_spec_texts.specs.Line.{history, bag, check}
-use Rattle.ori_spec_texts.specs.Reply.{AnswerData, to_session, to_history, to_step, answer_text, tells_fault}
+use Rattle.ori_spec_texts.specs.Reply.{AnswerData, to_session, to_history, to_step, to_done, answer_text}
+use Rattle.ori_spec_texts.specs.Reply.{tells_fault}
 use Rattle.ori_spec_runs.specs.Answer.{SessionData, closed}
 use Rattle.ori_spec_runs.specs.Run.{RunData, Step}
 use Rattle.ori_model.specs.declared.reply.Reply.{Reply}
@@ -91,6 +92,7 @@ abbrev pub TellsHalted : ℕ → AnswerData → Type 0
 TellsHalted at (to_session session replies) = Any (λ (reply : ReplyData). reply.told ≡ Err (halted at)) replies
 TellsHalted at (to_history entries) = ⊥
 TellsHalted at (to_step refusal) = refusal ≡ halted at
+TellsHalted at to_done = ⊥
 
 -- ---- a line
 

@@ -75,7 +75,7 @@ fn step_text<D: Database>(alloc: Global, database: &D, step: &StepLine) -> Resul
         IfOk result (λ t. t ≡ answer_text (step_answer feed (step_of step.now))) }
 {
     match step {
-        StepLine::History => history_text(alloc, database.entries()),
+        StepLine::History => history_text(alloc, &[], database.entries()),
         StepLine::Flush { .. } => step_refusal_text(alloc, &Refusal::Unbuilt),
         StepLine::Settle => step_refusal_text(alloc, &Refusal::Unbuilt),
         StepLine::Checkpoint => step_refusal_text(alloc, &Refusal::Unbuilt),

@@ -1,6 +1,9 @@
 // A script over a volume, from its opening to its end.
-ghost use Rattle.std.specs.Prelude.{◌≡◌, ◌⊎◌, Option};
+ghost use Rattle.std.specs.Prelude.{◌≡◌, ◌⊎◌, Option, option_map};
 ghost use Rattle.ori_volume.specs.Story.{Story, Tells};
+ghost use Rattle.ori_model.specs.Data.{entry_of};
+ghost use Rattle.ori_model.specs.Standing.{PastData};
+ghost use Rattle.ori_engine.specs.Doubts.{doubt_of, entry_in_doubt};
 ghost use Rattle.ori_engine.specs.Openings.{IsCounted};
 ghost use Rattle.ori_script.specs.Reports.{report_of, ReportsOn};
 ghost use Rattle.ori_script.specs.Top.{empty_report, outside, Crashes, Promises};
@@ -8,8 +11,8 @@ ghost use Rattle.ori_script.specs.Top.{empty_report, outside, Crashes, Promises}
 use crate::run::run_lines;
 use crate::status;
 use ori_bytes::NumberList;
-use ori_engine::{Ended, Engine, StartFault, Unopened};
-use ori_model::{EntryList, Outcome, PlacedList, Reader, Report};
+use ori_engine::{Doubt, Ended, Engine, StartFault, Unopened};
+use ori_model::{Entry, EntryList, Outcome, PlacedList, Reader, Report};
 use ori_volume::{Sink, Source, Volume};
 use std::alloc::Global;
 
@@ -40,14 +43,24 @@ fn start_status(fault: StartFault) -> u8
     }
 }
 
+// The entry in doubt, without the number of records that would show it.
+fn entry_alone(doubt: Option<Doubt>) -> Option<Entry>
+    ensures { option_map entry_of result ≡ entry_in_doubt (option_map doubt_of doubt) }
+{
+    match doubt {
+        None => None,
+        Some(Doubt { entry, .. }) => Some(entry),
+    }
+}
+
 // The outcome of a run over an engine that has come to its end.
 fn outcome<V: Volume>(alloc: Global, status: u8, was_empty: bool, engine: Engine<V>) -> Outcome<V>
     ensures status { result.status ≡ status }
     ensures report { ReportsOn (⟦<Engine<V> as Reader>⟧.state engine) was_empty (report_of result.report) }
     ensures counts { IsCounted (⟦<Engine<V> as Reader>⟧.state engine) (⟦<Engine<V> as Reader>⟧.causes engine)
         (V.faults result.volume) (V.log_faults result.volume) }
-    ensures crash { (first : Option Story) → ⟦<Engine<V> as Reader>⟧.sound engine first
-        → Tells (Crashes (report_of result.report)) first (V.story result.volume) }
+    ensures crash { (first : PastData) → ⟦<Engine<V> as Reader>⟧.sound engine first
+        → Tells (Crashes (report_of result.report)) first.story (V.story result.volume) }
 {
     let Ended {
         volume,
@@ -61,7 +74,7 @@ fn outcome<V: Volume>(alloc: Global, status: u8, was_empty: bool, engine: Engine
         report: Report {
             was_empty,
             history: feed,
-            doubt,
+            doubt: entry_alone(doubt),
             failed: PlacedList::new(alloc),
             marks,
         },

@@ -23,7 +23,7 @@ use Rattle.ori_spec_data.specs.Base.{RecordData, TxData, into, initial_base, cre
 use Rattle.ori_spec_data.specs.Apply.{rid_at, temporary, fresh, apply_tx, relinked, full_cluster}
 use Rattle.ori_spec_texts.specs.Statement.{is_keyword, is_reserved, is_field_name, rows_at, whole_row, IsLink}
 use Rattle.ori_spec_texts.specs.Statement.{IsStatement, inserts, updates, deletes_vertex}
-use Rattle.ori_spec_texts.specs.Reply.{reply_text, answer_text, to_step}
+use Rattle.ori_spec_texts.specs.Reply.{reply_text, answer_text, to_step, to_done}
 use Rattle.ori_spec_data.specs.Replies.{granted, refused, unbuilt}
 use Rattle.ori_spec_texts.specs.Line.{Reads, Says, LineData, statement, tries, step, flush, bag, check, settle}
 use Rattle.ori_spec_texts.specs.Line.{checkpoint, reopen, history, StepData, IsStepText, at_end, at_bad_line, at_limit}
@@ -53,6 +53,9 @@ reply-unbuilt = refl
 
 step-unbuilt : answer_text (to_step unbuilt) ≡ codes "! ERR Unbuilt\n"
 step-unbuilt = refl
+
+step-done : answer_text to_done ≡ codes "! OK\n"
+step-done = refl
 
 abbrev tx : TxData
 tx = record {

@@ -132,16 +132,19 @@ history_text history = entries_text 0 history ++ codes "! OK " ++ decimal (lengt
 
 -- ---- answers
 
--- What is printed for one line of input: the replies to a session, in order; the history; or why a step was refused.
+-- What is printed for one line of input: the replies to a session, in order; the history; why a step was refused; or
+-- that it was done.
 pub data AnswerData : Type 0 where
   to_session : ℕ → List ReplyData → AnswerData
   to_history : List EntryData → AnswerData
   to_step : RefusalData → AnswerData
+  to_done : AnswerData
 
 abbrev pub answer_text : AnswerData → List ℕ
 answer_text (to_session session replies) = flat_map (reply_text session) replies
 answer_text (to_history history) = history_text history
 answer_text (to_step refusal) = codes "! ERR " ++ refusal_text refusal ++ 10 ∷ []
+answer_text to_done = codes "! OK\n"
 
 abbrev pub answers_text : List AnswerData → List ℕ
 answers_text answers = flat_map answer_text answers
@@ -151,3 +154,4 @@ abbrev pub tells_fault : AnswerData → Bool
 tells_fault (to_session session replies) = list_any (λ (reply : ReplyData). is_fault reply.told) replies
 tells_fault (to_history history) = false
 tells_fault (to_step refusal) = is_fault_refusal refusal
+tells_fault to_done = false

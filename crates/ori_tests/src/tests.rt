@@ -2,12 +2,16 @@
 mod calls;
 mod crashes;
 mod decisions;
+mod depths;
 mod entries;
 mod faults;
 mod fronts;
 mod logs;
+mod maps;
 mod numbers;
 mod orders;
+mod pages;
+mod pool;
 mod records;
 mod runs;
 mod samples;

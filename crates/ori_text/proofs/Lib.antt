@@ -11,3 +11,4 @@ mod Readings
 mod StepLemmas
 mod Promptness
 mod JsonLists
+pub mod Histories

@@ -1,5 +1,6 @@
 // Histories as they are printed.
-ghost use Rattle.std.specs.Prelude.{◌≡◌, ◌+◌, ◌++◌, ◌∷◌, [], codes, decimal, IfOk, string_bytes, map};
+ghost use Rattle.std.specs.Prelude.{◌≡◌, ◌+◌, ◌<◌, ◌^◌, ◌++◌, ◌∷◌, [], codes, decimal, length, IfOk, OnOk};
+ghost use Rattle.std.specs.Prelude.{string_bytes, map};
 ghost use Rattle.ori_spec_texts.specs.Json.{rid_text};
 ghost use Rattle.ori_spec_texts.specs.Reply.{change_text, rids_behind, changes_text, entry_text, entries_text};
 ghost use Rattle.ori_spec_texts.specs.Reply.{history_text};
@@ -90,24 +91,35 @@ fn entry_line(alloc: Global, place: usize, entry: &Entry) -> Result<String, NoMe
     Ok(format!(in alloc; "! HISTORY {place} {entry}\n")?)
 }
 
-// The lines of entries, from place 0 on.
-fn entry_lines(alloc: Global, entries: &[Entry]) -> Result<String, NoMemory>
-    ensures { IfOk result (λ s. string_bytes s ≡ entries_text 0 (entries_of entries.now)) }
+// Adds the lines of entries, the first of which has this place.
+fn put_entries(
+    alloc: Global,
+    text: &mut String,
+    first: usize,
+    entries: &[Entry],
+) -> Result<(), NoMemory>
+    requires { first + length entries.now < 2 ^ 64 }
+    ensures { OnOk result (string_bytes text.new ≡ string_bytes text.old
+        ++ entries_text first (entries_of entries.now)) }
 {
-    let mut text = String::new(alloc);
-    for place in 0..entries.len() {
-        text.push_str(entry_line(alloc, place, &entries[place])?.as_str())?;
+    let mut place = first;
+    for entry in entries {
+        text.push_str(entry_line(alloc, place, entry)?.as_str())?;
+        place += 1;
     }
-    Ok(text)
+    Ok(())
 }
 
-/// The lines of a history: one for each entry, with its place from 0 on, and the count. The time that it takes is that
-/// of what it prints.
-pub fn history_text(alloc: Global, history: &[Entry]) -> Result<Text, NoMemory>
-    ensures { IfOk result (λ t. t ≡ history_text (entries_of history.now)) }
+/// The lines of a history, which stands in two lists: one for each entry, with its place from 0 on, and the count. The
+/// time that it takes is that of what it prints.
+#[tactic(auto, using(crate::proofs::Histories::both_printed))]
+pub fn history_text(alloc: Global, earlier: &[Entry], feed: &[Entry]) -> Result<Text, NoMemory>
+    ensures { IfOk result (λ t. t ≡ history_text (entries_of earlier.now ++ entries_of feed.now)) }
 {
-    let count = history.len();
-    let mut text = entry_lines(alloc, history)?;
+    let count = earlier.len() + feed.len();
+    let mut text = String::new(alloc);
+    put_entries(alloc, &mut text, 0, earlier)?;
+    put_entries(alloc, &mut text, earlier.len(), feed)?;
     text.push_str(format!(in alloc; "! OK {count}\n")?.as_str())?;
     Ok(Text::from_string(text))
 }

@@ -20,4 +20,4 @@ pub use json::row_json;
 pub use line::{Line, LineFault, LineReader, StepLine};
 pub use pieces::{after, is_word, read_link, split_at_space};
 pub use printing::print;
-pub use reply::{reply_text, step_refusal_text};
+pub use reply::{reply_text, step_done_text, step_refusal_text};

@@ -1,7 +1,7 @@
 // Replies as they are printed.
 ghost use Rattle.std.specs.Prelude.{◌≡◌, ◌++◌, ◌∷◌, [], IfOk, IsTrue, false, string_bytes, map, flat_map, codes};
 ghost use Rattle.std.specs.Prelude.{decimal};
-ghost use Rattle.ori_spec_texts.specs.Reply.{reply_text, answer_text, to_step, told_text};
+ghost use Rattle.ori_spec_texts.specs.Reply.{reply_text, answer_text, to_step, to_done, told_text};
 ghost use Rattle.ori_spec_texts.specs.Reply as spec;
 ghost use Rattle.ori_model.specs.Replies.{row_of, reply_of, refusal_of, told_of};
 ghost use Rattle.ori_text.specs.Fronts.{fronts_text, fronted_text};
@@ -114,4 +114,11 @@ pub fn step_refusal_text(alloc: Global, refusal: &Refusal) -> Result<Text, NoMem
 {
     let why = refusal_string(alloc, refusal)?;
     Ok(Text::from_string(format!(in alloc; "! ERR {why}\n")?))
+}
+
+/// The line of a step that was done.
+pub fn step_done_text(alloc: Global) -> Result<Text, NoMemory>
+    ensures { IfOk result (λ t. t ≡ answer_text to_done) }
+{
+    Text::from_str(alloc, "! OK\n")
 }

@@ -3,3 +3,9 @@ mod Homes
 mod Marking
 mod Told
 mod Making
+mod Hands
+mod Giving
+mod Synced
+mod Settled
+mod Finished
+mod Started

@@ -1,10 +1,10 @@
 -- The turns as they begin.
-use Rattle.std.proofs.Common.{◌≡◌, ℕ, zero, suc, List, Option, Some, None, replicate, refl, sym, subst}
+use Rattle.std.proofs.Common.{◌≡◌, ⊎_elim, ℕ, zero, suc, List, Some, replicate, refl, subst}
 use Rattle.ori_bytes.specs.declared.limits.TheConstants.{PARTITIONS}
-use Rattle.ori_part.specs.Parts.{PartData, no_pages}
+use Rattle.ori_part.specs.Parts.{PartData, no_pages, Holds}
 use Rattle.ori_turns.specs.declared.slot.Slot.{Slot}
 use Rattle.ori_turns.specs.declared.slot.Slot.TheVariants.{Home}
-use Rattle.ori_turns.specs.Caches.{Cache, IsPart, AreOwn, unread}
+use Rattle.ori_turns.specs.Caches.{IsPart, AreOwn, unread}
 use Rattle.ori_turns.specs.Owning.{home_part, AreParts, AreFit}
 
 abbrev empties : ℕ → List (Slot PartData)
@@ -16,19 +16,19 @@ empty_at (suc n) zero part is = cc
 empty_at (suc n) (suc k) part is = empty_at n k part is
 
 no_own : (k : ℕ) → AreOwn k no_pages
-no_own k = record { few = λ page there. cc; own = λ page there. cc }
+no_own k page there = cc
 
 pub fit_new : AreFit (replicate PARTITIONS (Home no_pages))
-fit_new = record {
-  count = refl;
-  range = λ k part is. subst (AreOwn k) (empty_at PARTITIONS k part is) (no_own k);
-}
+fit_new k part is = subst (AreOwn k) (empty_at PARTITIONS k part is) (no_own k)
+
+none_kept : (page : ℕ) (content : List ℕ) → Holds no_pages page content → ⊥
+none_kept page content keeps = ⊎_elim (λ (dirty : _ ≡ Some content). cc) (λ (clean : _ ≡ Some content). cc) keeps
 
 no_part : (pages : List (List ℕ)) (k : ℕ) → IsPart (unread pages) k no_pages
 no_part pages k = record {
-  own = λ page some. cc;
-  within = λ page some. cc;
-  contents = λ page content at. cc;
+  own = λ page content keeps. absurd (none_kept page content keeps);
+  within = λ page content keeps. absurd (none_kept page content keeps);
+  contents = λ page content keeps. absurd (none_kept page content keeps);
   dirty = λ page same. refl;
 }
 

@@ -1,6 +1,7 @@
 -- What a flush makes of a partition and of the cache.
-use Rattle.std.proofs.Common.{◌≡◌, ◌≢◌, ⊎_elim, ℕ, ◌%◌, Bool, true, false, cond, List, Option, Some, None, Result, Ok}
-use Rattle.std.proofs.Common.{Err, OnOk, OnErr, IsSome, IsTrue, [], ◌∷◌, nat_eq, is_some, ◌<◌, length, refl, sym, ap}
+use Rattle.std.proofs.Common.{◌≡◌, ◌≢◌, ⊎_elim, inl, inr, ℕ, ◌%◌, Bool, true, false, cond, List, Option, Some, None}
+use Rattle.std.proofs.Common.{Result, Ok}
+use Rattle.std.proofs.Common.{Err, OnOk, OnErr, IsSome, [], ◌∷◌, nat_eq, is_some, ◌<◌, length, refl, sym, ap}
 use Rattle.std.proofs.Common.{◌∙◌, subst, arith}
 use Rattle.std.proofs.lemmas.Bool.{cases_eq, eq-eqb, ne_eqb}
 use Rattle.std.specs.Option.{option_map, option_and_then}
@@ -11,7 +12,7 @@ use Rattle.ori_volume.specs.Story.{Story, Tells}
 use Rattle.ori_page.specs.Spaces.{page_at}
 use Rattle.ori_log.specs.declared.log.Log.{Log}
 use Rattle.ori_part.specs.declared.place.Place.{Place}
-use Rattle.ori_part.specs.Parts.{PartData, has_place, place_at, clean_at, content_at, marked}
+use Rattle.ori_part.specs.Parts.{PartData, has_place, place_at, dirty_at, clean_at, marked, Holds}
 use Rattle.ori_cover.specs.Dirty.{Dirty, DirtyPage, unwritten, written, IsMarked}
 use Rattle.ori_cover.specs.Steps.{WritesHome}
 use Rattle.ori_cover.specs.Reading.{WritesHomeRead}
@@ -43,14 +44,23 @@ same_dirty_content page content old new mark q = ⊎_elim
     (λ (apart : q ≢ page). ap content_of (mark.others q apart))
     (cases_eq q page)
 
-pub marked_content : (part : PartData) (page : ℕ) (content : List ℕ)
+dirty_marked : (part : PartData) (page : ℕ) (content : List ℕ)
     → IsMarked page content (dirty_of part) (dirty_of (marked part page content)) → (q : ℕ)
-    → content_at (marked part page content) q ≡ content_at part q
-marked_content part page content mark q =
-    ap (λ (o : Option (List ℕ)). cond (is_some o) o (clean_at part q))
-    (dirty_content (place_at (marked part page content) q)
+    → dirty_at (marked part page content) q ≡ dirty_at part q
+dirty_marked part page content mark q =
+    dirty_content (place_at (marked part page content) q)
     ∙ same_dirty_content page content (dirty_of part) (dirty_of (marked part page content)) mark q
-    ∙ sym (dirty_content (place_at part q)))
+    ∙ sym (dirty_content (place_at part q))
+
+-- what is held with the mark was held without it
+pub marked_keeps : (part : PartData) (page : ℕ) (content : List ℕ)
+    → IsMarked page content (dirty_of part) (dirty_of (marked part page content)) → (q : ℕ) (l : List ℕ)
+    → Holds (marked part page content) q l → Holds part q l
+marked_keeps part page content mark q l keeps = ⊎_elim
+    (λ (dirty : dirty_at (marked part page content) q ≡ Some l).
+    inl (sym (dirty_marked part page content mark q) ∙ dirty))
+    (λ (clean : clean_at (marked part page content) q ≡ Some l). inr clean)
+    keeps
 
 -- ---- the dirty pages with a mark
 
@@ -82,10 +92,9 @@ part_marked : (c : Cache) (k page : ℕ) (content : List ℕ) (held : PartData)
     → IsMarked page content (dirty_of held) (dirty_of (marked held page content)) → IsPart c k held
     → IsPart (moved c (mark_in page content c.dirty)) k (marked held page content)
 part_marked c k page content held mark part = record {
-  own = λ q some. part.own q (subst (λ (o : Option (List ℕ)). IsSome o) (marked_content held page content mark q) some);
-  within = λ q some.
-      part.within q (subst (λ (o : Option (List ℕ)). IsSome o) (marked_content held page content mark q) some);
-  contents = λ q l at. part.contents q l (sym (marked_content held page content mark q) ∙ at);
+  own = λ q l keeps. part.own q l (marked_keeps held page content mark q l keeps);
+  within = λ q l keeps. part.within q l (marked_keeps held page content mark q l keeps);
+  contents = λ q l keeps. part.contents q l (marked_keeps held page content mark q l keeps);
   dirty = λ q same. ⊎_elim
       (λ (is : q ≡ page). subst
       (λ n. mark_in page content c.dirty n ≡ dirty_of (marked held page content) n) (sym is)
@@ -99,13 +108,22 @@ pub part_stays : {D : Type 0} (seat : Seat D) (k : ℕ) (held : PartData) → he
     → (c now : Cache) → SameHeld seat c now → IsPart c k held → IsPart now k held
 part_stays seat k held mine c now same part = record {
   own = part.own;
-  within = λ q some. subst (λ (l : List (List ℕ)). q < length l) (sym same.same.pages) (part.within q some);
-  contents = λ q l at. ap (λ (p : List (List ℕ)). page_at p q) same.same.pages ∙ part.contents q l at;
+  within = λ q l keeps. subst (λ (p : List (List ℕ)). q < length p) (sym same.same.pages) (part.within q l keeps);
+  contents = λ q l keeps. ap (λ (p : List (List ℕ)). page_at p q) same.same.pages ∙ part.contents q l keeps;
   dirty = λ q is. same.held q (subst (λ (o : Option PartData). IsSome o)
       (sym (ap (held_part seat) is ∙ mine)) cc) ∙ part.dirty q is;
 }
 
 -- ---- the cache
+
+-- where nothing has changed
+pub only_same : {D : Type 0} (seat : Seat D) (c : Cache) → OnlyHeld seat c c
+only_same seat c = record {
+  same = λ other. record { pages = refl; doubt = refl; records = refl };
+  count = omega arith;
+  pages = λ q lt free. refl;
+  dirty = λ q free. refl;
+}
 
 none_some : (o : Option PartData) (held : PartData) → o ≡ None → o ≡ Some held → ⊥
 none_some o held none some = cc
@@ -120,14 +138,6 @@ module _ {D : Type 0} (seat : Seat D) (k page : ℕ) (content : List ℕ) (held 
     dirty = λ q free. mark_other page content c.dirty q (λ same.
         none_some (held_part seat (q % PARTITIONS)) held free
         (ap (λ n. held_part seat (n % PARTITIONS)) same ∙ ap (held_part seat) own ∙ mine));
-  }
-
-  only_none : (c : Cache) → OnlyHeld seat c c
-  only_none c = record {
-    same = λ other. record { pages = refl; doubt = refl; records = refl };
-    count = omega arith;
-    pages = λ q lt free. refl;
-    dirty = λ q free. refl;
   }
 
   pub after_flush : {T E : Type 0} (done : Result T E) (new : PartData) (log : Option Log) (halted : Option ℕ)
@@ -151,7 +161,7 @@ module _ {D : Type 0} (seat : Seat D) (k page : ℕ) (content : List ℕ) (held 
       let dirty : c.dirty page ≡ Some (unwritten content) = part.dirty page own ∙ is in (
         c,
         record { pages = refl; doubt = refl; records = refl },
-        only_none c,
+        only_same seat c,
         kept_by c page content dirty halted s t f g (Err fault) told read log gives,
         subst (λ (p : PartData). IsPart c k p) (sym err) part,
       )
@@ -193,10 +203,7 @@ own_marked : (k : ℕ) (part : PartData) (page : ℕ) (content : List ℕ) → A
 own_marked k part page content own =
     let same : (q : ℕ) → has_place (marked part page content) q ≡ has_place part q
     = λ q. same_there (nat_eq q) (nat_eq page) part.places _ in
-    record {
-      few = λ q there. own.few q (subst IsTrue (same q) there);
-      own = λ q there. own.own q (subst IsTrue (same q) there);
-    }
+    λ q there. own q (sym (same q) ∙ there)
 
 pub own_after : {T E : Type 0} (done : Result T E) (k : ℕ) (held new : PartData) (page : ℕ) (content : List ℕ)
     (X : Type 0) → OnOk done ((new ≡ marked held page content) × X) → OnErr done (new ≡ held) → AreOwn k held

@@ -1,17 +1,16 @@
 -- What a take and a give make of the turns of one handle.
 use Rattle.std.proofs.Common.{◌≡◌, ◌≢◌, ⊎_elim, ℕ, ◌%◌, ◌<◌, true, List, length, map, Option, Some, None, IfSome}
-use Rattle.std.proofs.Common.{IsSome, [], ◌∷◌, zero, suc, arith}
+use Rattle.std.proofs.Common.{[], ◌∷◌, zero, suc, arith}
 use Rattle.std.proofs.Common.{slice_index_or, slice_set, refl, sym, ap, ◌∙◌, subst}
 use Rattle.std.proofs.lemmas.Bool.{cases_eq}
 use Rattle.std.proofs.lemmas.List.{get_or-map, get_or-set_same, get_or-set_other, set-get_or, map-set, length-map}
-use Rattle.std.proofs.lemmas.List.{length-set}
 use Rattle.ori_bytes.specs.declared.limits.TheConstants.{PARTITIONS}
-use Rattle.ori_part.specs.Parts.{PartData, content_at}
+use Rattle.ori_part.specs.Parts.{PartData}
 use Rattle.ori_turns.specs.Caches.{AreOwn}
 use Rattle.ori_turns.specs.declared.slot.Slot.{Slot}
 use Rattle.ori_turns.specs.declared.slot.Slot.TheVariants.{Home, Out}
 use Rattle.ori_turns.specs.Slots.{shown, home_of, held_of}
-use Rattle.ori_turns.specs.Seats.{Seat, Told, took_part, gave_part}
+use Rattle.ori_turns.specs.Seats.{Seat, Told, Last, took_part, gave_part}
 use Rattle.ori_turns.specs.Caches.{Cache, IsPart, OnlyPart, OnlyHeld}
 use Rattle.ori_turns.specs.Owning.{seat_of, home_part, AreParts, AreFit}
 
@@ -64,17 +63,11 @@ given_home (Out x) v part given home = cc
 
 module _ (xs : Slots) (k : ℕ) (lt : k < length xs) (y : Slot PartData) (v : PartData) where
   pub fit_taken : held_of y ≡ Some v → AreFit xs → AreFit (slice_set xs k y)
-  fit_taken out fit = record {
-    count = length-set xs k y ∙ fit.count;
-    range = each_set xs k lt y AreOwn fit.range (λ part home. absurd (out_home y v part out home));
-  }
+  fit_taken out fit = each_set xs k lt y AreOwn fit (λ part home. absurd (out_home y v part out home))
 
   pub fit_given : y ≡ Home v → AreOwn k v → AreFit xs → AreFit (slice_set xs k y)
-  fit_given given range fit = record {
-    count = length-set xs k y ∙ fit.count;
-    range = each_set xs k lt y AreOwn fit.range
-        (λ part home. subst (AreOwn k) (given_home y v part given home) range);
-  }
+  fit_given given range fit = each_set xs k lt y AreOwn fit
+      (λ part home. subst (AreOwn k) (given_home y v part given home) range)
 
   pub parts_taken : (cache : Cache) → held_of y ≡ Some v → AreParts xs cache → AreParts (slice_set xs k y) cache
   parts_taken cache out parts =
@@ -106,15 +99,14 @@ taken_has (Home v) (Some w) Q is step = step w (sym is) cc
 taken_has (Out v) None Q is step = tt
 taken_has (Out v) (Some w) Q is step = cc
 
-module _ {D : Type 0} (xs : Slots) (k : ℕ) (lt : k < length xs) (device : Slot D) (faults log_faults : ℕ) where
+module _ {D : Type 0} (xs : Slots) (k : ℕ) (lt : k < length xs) (device : Slot D) (last : Last) where
   abbrev with_lists : List (Option PartData) → List PartData → Seat D
   with_lists held parts = let told : Told D = record { parts = parts; device = shown device } in
       record {
         engine = true;
         parts = held;
         device = held_of device;
-        faults = faults;
-        log_faults = log_faults;
+        last = last;
         told = Some told;
       }
 
@@ -123,13 +115,13 @@ module _ {D : Type 0} (xs : Slots) (k : ℕ) (lt : k < length xs) (device : Slot
 
   pub seat_taken : (x y : Slot PartData) (w : PartData) → x ≡ slice_index_or xs k x → held_of y ≡ Some (shown x)
       → shown y ≡ shown x → w ≡ shown x
-      → seat_of (slice_set xs k y) device faults log_faults ≡ took_part k w (seat_of xs device faults log_faults)
+      → seat_of (slice_set xs k y) device last ≡ took_part k w (seat_of xs device last)
   seat_taken x y w at out same is = same_lists _ _ _ _
       (map-set held_of xs k y ∙ ap (slice_set (map held_of xs) k) (out ∙ ap Some (sym is)))
       (set_again shown xs k w x y at lt same)
 
   pub seat_given : (y : Slot PartData) (w : PartData) → y ≡ Home w
-      → seat_of (slice_set xs k y) device faults log_faults ≡ gave_part k w (seat_of xs device faults log_faults)
+      → seat_of (slice_set xs k y) device last ≡ gave_part k w (seat_of xs device last)
   seat_given y w is = same_lists _ _ _ _
       (map-set held_of xs k y ∙ ap (λ s. slice_set (map held_of xs) k (held_of s)) is)
       (map-set shown xs k y ∙ ap (λ s. slice_set (map shown xs) k (shown s)) is)
@@ -148,21 +140,18 @@ home_free (Home x ∷ xs) zero part is = refl
 home_free (Out x ∷ xs) zero part is = cc
 home_free (x ∷ xs) (suc k) part is = home_free xs k part is
 
-held_some : (o : Option (List ℕ)) (content : List ℕ) → o ≡ Some content → IsSome o
-held_some o content is = subst (λ (p : Option (List ℕ)). IsSome p) (sym is) cc
-
 -- what the handle changed is of partitions that it holds: those that are here are still those of the cache
-pub parts_go : {D : Type 0} (xs : Slots) (device : Slot D) (faults log_faults : ℕ) (old new : Cache) → AreParts xs old
-    → OnlyHeld (seat_of xs device faults log_faults) old new → AreParts xs new
-parts_go xs device faults log_faults old new parts only k part here =
+pub parts_go : {D : Type 0} (xs : Slots) (device : Slot D) (last : Last) (old new : Cache) → AreParts xs old
+    → OnlyHeld (seat_of xs device last) old new → AreParts xs new
+parts_go xs device last old new parts only k part here =
     let is : IsPart old k part = parts k part here in
     let free : (page : ℕ) → page % PARTITIONS ≡ k → slice_index_or (map held_of xs) (page % PARTITIONS) None ≡ None
     = λ page same. subst (λ j. slice_index_or (map held_of xs) j None ≡ None) (sym same) (home_free xs k part here) in
     record {
       own = is.own;
-      within = λ page some. omega (arith, is.within page some, only.count);
-      contents = λ page content at. only.pages page (is.within page (held_some (content_at part page) content at))
-          (free page (is.own page (held_some (content_at part page) content at))) ∙ is.contents page content at;
+      within = λ page content keeps. omega (arith, is.within page content keeps, only.count);
+      contents = λ page content keeps. only.pages page (is.within page content keeps)
+          (free page (is.own page content keeps)) ∙ is.contents page content keeps;
       dirty = λ page same. only.dirty page (free page same) ∙ is.dirty page same;
     }
 

@@ -1,17 +1,17 @@
 -- What the partitions and the device are to each other.
-use Rattle.std.specs.Prelude.{◌≡◌, ◌≢◌, ℕ, ◌%◌, ◌<◌, ◌≤◌, false, List, [], length, Option, Some, None, IsSome, IsTrue}
-use Rattle.ori_bytes.specs.declared.limits.TheConstants.{PARTITIONS, MAX_PAGES}
+use Rattle.std.specs.Prelude.{◌≡◌, ◌≢◌, ℕ, ◌%◌, ◌<◌, ◌≤◌, false, List, [], length, Option, Some, None, IsSome}
+use Rattle.ori_bytes.specs.declared.limits.TheConstants.{PARTITIONS}
 use Rattle.ori_volume.specs.Disk.{Files, files_of}
 use Rattle.ori_volume.specs.Story.{Story}
 use Rattle.ori_page.specs.Spaces.{page_at}
 use Rattle.ori_log.specs.Log.{ImageData}
 use Rattle.ori_log.specs.declared.log.Log.{Log}
-use Rattle.ori_part.specs.Parts.{PartData, content_at, has_place}
+use Rattle.ori_part.specs.Parts.{PartData, Holds}
 use Rattle.ori_cover.specs.Dirty.{Dirty, AreClean}
 use Rattle.ori_cover.specs.Given.{HoldsPages}
 use Rattle.ori_cover.specs.Cover.{Stands, Covers}
 use Rattle.ori_cover.specs.Reading.{StandsRead, CoversRead}
-use Rattle.ori_pool.specs.Held.{dirty_of}
+use Rattle.ori_pool.specs.Held.{dirty_of, HasOwn}
 use Rattle.ori_turns.specs.Seats.{Seat, held_part}
 
 -- The pages as they are, the pages in doubt, which are the same ones while nothing is halted, the records of the tail,
@@ -70,17 +70,15 @@ GivesCache (Some log) (Some at_fault) story files cache = CoversNow cache story 
 -- ---- a partition
 
 -- Partition k has places for pages of its remainder alone, of as many as there may be.
-pub record AreOwn (k : ℕ) (part : PartData) : Type 0 where
-  pub few : (page : ℕ) → IsTrue (has_place part page) → page < MAX_PAGES
-  pub own : (page : ℕ) → IsTrue (has_place part page) → page % PARTITIONS ≡ k
+abbrev pub AreOwn : ℕ → PartData → Type 0
+AreOwn k part = HasOwn k (Some part)
 
 -- Partition k: the pages that it holds are those of its remainder, with the contents of the pages as they are, and the
 -- dirty ones of these are dirty in it.
 pub record IsPart (cache : Cache) (k : ℕ) (part : PartData) : Type 0 where
-  pub own : (page : ℕ) → IsSome (content_at part page) → page % PARTITIONS ≡ k
-  pub within : (page : ℕ) → IsSome (content_at part page) → page < length cache.pages
-  pub contents : (page : ℕ) (content : List ℕ) → content_at part page ≡ Some content
-      → page_at cache.pages page ≡ content
+  pub own : (page : ℕ) (content : List ℕ) → Holds part page content → page % PARTITIONS ≡ k
+  pub within : (page : ℕ) (content : List ℕ) → Holds part page content → page < length cache.pages
+  pub contents : (page : ℕ) (content : List ℕ) → Holds part page content → page_at cache.pages page ≡ content
   pub dirty : (page : ℕ) → page % PARTITIONS ≡ k → cache.dirty page ≡ dirty_of part page
 
 -- ---- what changes between two gives

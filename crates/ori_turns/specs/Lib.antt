@@ -3,3 +3,7 @@ pub mod Seats
 pub mod Caches
 pub mod Owning
 pub mod Flushes
+pub mod Hands
+pub mod Works
+pub mod Checkpointed
+pub mod Openings

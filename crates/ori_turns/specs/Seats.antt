@@ -1,13 +1,33 @@
 -- What a handle holds of the turns, and what it tells.
-use Rattle.std.specs.Prelude.{◌≡◌, ℕ, Bool, List, Option, Some, None, slice_index_or, slice_set, replicate, IfSome}
+use Rattle.std.specs.Prelude.{◌≡◌, ◌≤◌, ℕ, Bool, true, List, Option, Some, None, IfSome, slice_index_or, slice_set}
+use Rattle.std.specs.Prelude.{replicate}
 use Rattle.std.specs.Option.{option_map}
 use Rattle.ori_bytes.specs.declared.limits.TheConstants.{PARTITIONS}
+use Rattle.ori_log.specs.declared.log.Log.{Log}
 use Rattle.ori_part.specs.Parts.{PartData, no_pages}
+use Rattle.ori_pool.specs.declared.device.Device.{Device}
 
 -- the partitions, k at place k, and the device, as they were last given
 pub record Told (D : Type 0) : Type 0 where
   pub parts : List PartData
   pub device : D
+
+-- what a handle knows of the device that it last gave, and at first of the volume's: its log, whether it is halted, and
+-- the volume's counts
+pub record Last : Type 0 where
+  pub log : Option Log
+  pub halted : Option ℕ
+  pub faults : ℕ
+  pub log_faults : ℕ
+
+-- what of a device is known to whoever gave it last
+abbrev pub last_of : {V : Type 0} → (V → ℕ) → (V → ℕ) → Device V → Last
+last_of faults log_faults device = record {
+  log = device.log;
+  halted = device.halted;
+  faults = faults device.volume;
+  log_faults = log_faults device.volume;
+}
 
 -- a handle: whether it is the engine's, what it holds, each as it was taken, and what it knows of the rest
 pub record Seat (D : Type 0) : Type 0 where
@@ -16,9 +36,7 @@ pub record Seat (D : Type 0) : Type 0 where
   pub parts : List (Option PartData)
   -- the device, where it holds that turn
   pub device : Option D
-  -- the counts of the device that it last gave, at first those of the volume
-  pub faults : ℕ
-  pub log_faults : ℕ
+  pub last : Last
   -- the values as they were last given, by whichever handle
   pub told : Option (Told D)
 
@@ -41,6 +59,10 @@ pub record HoldsNothing {D : Type 0} (seat : Seat D) : Type 0 where
 
 -- ---- takes and gives
 
+-- these partitions are held
+abbrev pub with_parts : {D : Type 0} → List (Option PartData) → Seat D → Seat D
+with_parts parts seat = record seat { parts = parts }
+
 abbrev pub took_part : {D : Type 0} → ℕ → PartData → Seat D → Seat D
 took_part k part seat = record seat { parts = slice_set seat.parts k (Some part) }
 
@@ -59,11 +81,18 @@ took_device device seat = record seat { device = Some device }
 abbrev pub told_device : {D : Type 0} → D → Told D → Told D
 told_device device told = record told { device = device }
 
--- with these counts
-abbrev pub gave_device : {D : Type 0} → D → ℕ → ℕ → Seat D → Seat D
-gave_device device faults log_faults seat = record seat {
+-- the device is given back, with what is known of it
+abbrev pub gave_device : {D : Type 0} → D → Last → Seat D → Seat D
+gave_device device last seat = record seat {
   device = None;
-  faults = faults;
-  log_faults = log_faults;
+  last = last;
   told = option_map (told_device device) seat.told;
 }
+
+-- work that is no log work was done: the count of faults never falls, and what is known of the log stays
+pub record IsTended {D : Type 0} (old new : Seat D) : Type 0 where
+  pub engine : new.engine ≡ old.engine
+  pub device : new.device ≡ None
+  pub faults : old.last.faults ≤ new.last.faults
+  pub log : old.engine ≡ true → (new.last.log ≡ old.last.log) × (new.last.halted ≡ old.last.halted)
+      × (new.last.log_faults ≡ old.last.log_faults)

@@ -1,6 +1,6 @@
 // A page goes home.
-ghost use Rattle.std.specs.Prelude.{◌≡◌, ◌%◌, ◌<◌, ◌≤◌, ℕ, List, None, Some, IfSome, IfNone, IfOk, OnOk, OnErr};
-ghost use Rattle.std.specs.Prelude.{IsErrOf, is_some};
+ghost use Rattle.std.specs.Prelude.{◌≡◌, ◌%◌, ◌<◌, ◌≤◌, ℕ, List, None, Some, Ok, IfSome, IfNone, IfOk, OnOk, OnErr};
+ghost use Rattle.std.specs.Prelude.{IsErrOf, is_some, true};
 ghost use Rattle.ori_bytes.specs.declared.limits.TheConstants.{PARTITIONS, MAX_PAGES};
 ghost use Rattle.ori_volume.specs.Causes.{Rose, HasCause};
 ghost use Rattle.ori_volume.specs.Story.{Tells};
@@ -10,8 +10,9 @@ ghost use Rattle.ori_cover.specs.Steps.{WritesHome};
 ghost use Rattle.ori_pool.specs.declared.device.Device.{Device};
 ghost use Rattle.ori_pool.specs.Held.{dirty_of};
 ghost use Rattle.ori_turns.specs.Seats.{held_part, took_device, gave_device, told_at, IsTold, HoldsNothing};
+ghost use Rattle.ori_turns.specs.Seats.{last_of};
 ghost use Rattle.ori_turns.specs.Caches.{Cache, AreOwn, IsPart, SamePages};
-ghost use Rattle.ori_turns.specs.Flushes.{IfFlushed};
+ghost use Rattle.ori_turns.specs.Flushes.{IfFlushed, MarksFirst};
 ghost use Rattle.ori_pool.specs.declared.fault.TendFault.{TendFault};
 
 use crate::Frames;
@@ -28,7 +29,6 @@ fn flush_page<V: Volume, F: Frames<V>, G: Gate>(
     page: u32,
     gate: &G,
 ) -> Option<Result<(), Failed>>
-    requires fits { F.fits frames.old }
     requires taken { held_part (F.seat frames.old) part ≡ Some held.old }
     requires free { (F.seat frames.old).device ≡ None }
     requires rule { F.may_give frames.old part held.old }
@@ -36,7 +36,6 @@ fn flush_page<V: Volume, F: Frames<V>, G: Gate>(
     requires own_page { page % PARTITIONS ≡ part }
     requires below { page < MAX_PAGES }
     requires unwritten { (content : List ℕ) × (dirty_of held.old page ≡ Some (unwritten content)) }
-    ensures fits { F.fits frames.new }
     ensures shares { F.shares frames.old frames.new }
     ensures rule { F.may_give frames.new part held.new }
     ensures busy { IfNone result (Rose (F.waits frames.old) (F.waits frames.new)) }
@@ -46,9 +45,9 @@ fn flush_page<V: Volume, F: Frames<V>, G: Gate>(
     ensures same { IfNone result ((held.new ≡ held.old) × (F.seat frames.new ≡ F.seat frames.old)) }
     ensures crash { IfSome result (λ done. (taken given : Device V)
         × IsTold (λ told. taken ≡ told.device) (F.seat frames.old)
-        × (F.seat frames.new ≡ gave_device given (V.faults given.volume) (V.log_faults given.volume)
+        × (F.seat frames.new ≡ gave_device given (last_of V.faults V.log_faults given)
         (took_device taken (F.seat frames.old)))
-        × ((F.seat frames.old).faults ≤ V.faults taken.volume)
+        × ((F.seat frames.old).last.faults ≤ V.faults taken.volume)
         × HasCause (V.faults taken.volume) (V.faults given.volume) done
         × (V.log_faults given.volume ≡ V.log_faults taken.volume)
         × ((content : List ℕ) → dirty_of held.old page ≡ Some (unwritten content)
@@ -67,7 +66,8 @@ fn flush_page<V: Volume, F: Frames<V>, G: Gate>(
 }
 
 /// Writes the first unwritten dirty page of a partition to its home, and marks it: the answer is false exactly where
-/// there is none. Between the choice and the write the gate is passed. It takes no memory.
+/// there is none. Between the choice and the write the gate is passed, which no clause says, since a gate tells
+/// nothing. It takes no memory.
 ///
 /// `Busy` comes only where another handle held a turn, and nothing has changed then. After a fault the page is dirty
 /// and unwritten as it was, and nothing is halted; `Halted` never comes.
@@ -77,18 +77,20 @@ pub fn flush_one<V: Volume, F: Frames<V>, G: Gate>(
     gate: &G,
 ) -> Result<bool, TendFault>
     requires part { part < PARTITIONS }
-    requires fits { F.fits frames.old }
     requires free { HoldsNothing (F.seat frames.old) }
-    ensures fits { F.fits frames.new }
     ensures shares { F.shares frames.old frames.new }
     ensures free { HoldsNothing (F.seat frames.new) }
     ensures none { IfOk result (λ wrote. IsTold
         (λ told. wrote ≡ is_some (unwritten_page (told_at told part).places)) (F.seat frames.old)) }
+    ensures marked { result ≡ Ok true → IsTold (λ was. IsTold (λ now. MarksFirst (told_at was part)
+        (told_at now part)) (F.seat frames.new)) (F.seat frames.old) }
     ensures waits { F.waits frames.old ≤ F.waits frames.new }
-    ensures busy { (turn : ℕ) → IsErrOf result (TendFault.Busy turn) → Rose (F.waits frames.old) (F.waits frames.new) }
+    ensures busy { (turn : ℕ) → IsErrOf result (TendFault.Busy turn)
+        → Rose (F.waits frames.old) (F.waits frames.new) }
     ensures halted { (at_fault : ℕ) → IsErrOf result (TendFault.Halted at_fault) → ⊥ }
-    ensures faults { (F.seat frames.old).faults ≤ (F.seat frames.new).faults }
-    ensures fault { IsErrOf result TendFault.Fault → Rose (F.seat frames.old).faults (F.seat frames.new).faults }
+    ensures faults { (F.seat frames.old).last.faults ≤ (F.seat frames.new).last.faults }
+    ensures fault { IsErrOf result TendFault.Fault
+        → Rose (F.seat frames.old).last.faults (F.seat frames.new).last.faults }
     ensures crash { IfFlushed result (λ done. (taken given : Device V) × (page : ℕ) × (content : List ℕ)
         × IsTold (λ told. (taken ≡ told.device) × (unwritten_page (told_at told part).places ≡ Some page)
         × (dirty_of (told_at told part) page ≡ Some (unwritten content))) (F.seat frames.old)

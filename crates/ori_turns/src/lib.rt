@@ -4,12 +4,21 @@
 //! frames needs to know of no other handle. [`Owned`] is the only handle of its turns, and finds each of them free.
 #![tactic(auto)]
 
+mod checkpointing;
 mod flushing;
 mod frames;
+mod opening;
 mod owned;
+mod settling;
 mod slot;
+mod starting;
+mod taking;
 
+pub use checkpointing::checkpoint;
 pub use flushing::flush_one;
 pub use frames::Frames;
+pub use opening::StartFault;
 pub use owned::Owned;
+pub use settling::settle;
 pub use slot::Slot;
+pub use starting::open;

@@ -1,10 +1,11 @@
 // Turns of one handle.
-ghost use Rattle.std.specs.Prelude.{◌≡◌, ℕ, List, None, replicate, IfOk, IfErr};
+ghost use Rattle.std.specs.Prelude.{◌≡◌, ℕ, List, length, None, replicate, IfOk, IfErr};
+ghost use Rattle.std.proofs.Props.{props};
 ghost use Rattle.ori_part.specs.Parts.{no_pages};
 ghost use Rattle.ori_turns.specs.declared.slot.Slot.TheVariants.{Home};
 ghost use Rattle.ori_bytes.specs.declared.limits.TheConstants.{PARTITIONS};
 ghost use Rattle.ori_pool.specs.declared.device.Device.{Device};
-ghost use Rattle.ori_turns.specs.Seats.{HoldsNothing};
+ghost use Rattle.ori_turns.specs.Seats.{HoldsNothing, last_of};
 ghost use Rattle.ori_turns.specs.Slots.{shown};
 ghost use Rattle.ori_turns.specs.Caches.{Cache, GivesCache, HoldNow, OnlyHeld, unread};
 ghost use Rattle.ori_turns.specs.Owning.{seat_of, AreParts, AreFit};
@@ -22,6 +23,8 @@ use std::alloc::Global;
 pub struct Owned<V: Volume> {
     parts: Vec<Slot<Part>>,
     device: Slot<Device<V>>,
+    ghost count: { length parts.items ≡ PARTITIONS },
+    ghost range: { AreFit parts.items } by { Prim.hlevel props },
 }
 
 // Eight partitions without a page.
@@ -36,16 +39,15 @@ fn empty_parts(alloc: Global) -> Result<Vec<Slot<Part>>, NoMemory>
 }
 
 impl<V: Volume> Owned<V> {
-    #[tactic(auto, using(crate::proofs::Making::fit_new, crate::proofs::Making::parts_new))]
     /// The turns of a volume that isn't open, with empty partitions: the pages are those that the files hold. If out of
     /// memory the volume comes back.
+    #[tactic(auto, using(crate::proofs::Making::fit_new, crate::proofs::Making::parts_new))]
     pub fn new(alloc: Global, volume: V) -> Result<Owned<V>, (V, NoMemory)>
         ensures device { IfOk result (λ owned. owned.device
             ≡ Home (record { volume = volume; log = None; halted = None })) }
         ensures parts { IfOk result (λ owned. owned.parts.items ≡ replicate PARTITIONS (Home no_pages)) }
-        ensures fits { IfOk result (λ owned. AreFit owned.parts.items) }
-        ensures free { IfOk result (λ owned. HoldsNothing (seat_of owned.parts.items owned.device (V.faults volume)
-            (V.log_faults volume))) }
+        ensures free { IfOk result (λ owned. HoldsNothing (seat_of owned.parts.items owned.device
+            (last_of V.faults V.log_faults (shown owned.device)))) }
         ensures gives { IfOk result (λ owned. (pages : List (List ℕ)) → HoldNow pages (V.story volume) (V.files volume)
             → AreParts owned.parts.items (unread pages)
             × GivesCache None None (V.story volume) (V.files volume) (unread pages)) }
@@ -62,8 +64,8 @@ impl<V: Volume> Owned<V> {
 
     /// The volume, where no turn is held.
     pub fn into_volume(self) -> V
-        requires { HoldsNothing (seat_of self.parts.items self.device (V.faults (shown self.device).volume)
-            (V.log_faults (shown self.device).volume)) }
+        requires { HoldsNothing (seat_of self.parts.items self.device
+            (last_of V.faults V.log_faults (shown self.device))) }
         ensures { result ≡ (shown self.device).volume }
     {
         let Owned {
@@ -79,12 +81,14 @@ impl<V: Volume> Owned<V> {
 
 impl<V: Volume> Frames<V> for Owned<V> {
     ghost use Rattle.std.specs.Prelude.{◌≡◌, ⊤};
+    ghost use Rattle.std.proofs.Common.{◌∙◌};
+    ghost use Rattle.std.proofs.lemmas.List.{length-map};
     ghost use Rattle.ori_turns.specs.Slots.{shown};
     ghost use Rattle.ori_turns.specs.Caches.{GivesCache};
+    ghost use Rattle.ori_turns.specs.Seats.{last_of};
     ghost use Rattle.ori_turns.specs.Owning.{seat_of, AreParts, AreFit};
 
-    ghost seat = { λ o. seat_of o.parts.items o.device (V.faults (shown o.device).volume)
-        (V.log_faults (shown o.device).volume) };
+    ghost seat = { λ o. seat_of o.parts.items o.device (last_of V.faults V.log_faults (shown o.device)) };
 
     ghost gives = { λ o cache. AreParts o.parts.items cache × GivesCache (shown o.device).log (shown o.device).halted
         (V.story (shown o.device).volume) (V.files (shown o.device).volume) cache };
@@ -97,7 +101,7 @@ impl<V: Volume> Frames<V> for Owned<V> {
 
     ghost may_return = { λ _ _. ⊤ };
 
-    ghost fits = { λ o. AreFit o.parts.items };
+    ghost eight = { λ o. (length-map o.parts.items _ ∙ o.count, length-map o.parts.items _ ∙ o.count) };
 
     ghost shares_itself = { λ _. tt };
 
@@ -121,8 +125,8 @@ impl<V: Volume> Frames<V> for Owned<V> {
         ensures gives { (cache now : Cache) → AreParts self.old.parts.items cache
             × GivesCache (shown self.old.device).log (shown self.old.device).halted
             (V.story (shown self.old.device).volume) (V.files (shown self.old.device).volume) cache
-            → OnlyHeld (seat_of self.old.parts.items self.old.device (V.faults (shown self.old.device).volume)
-            (V.log_faults (shown self.old.device).volume)) cache now
+            → OnlyHeld (seat_of self.old.parts.items self.old.device
+            (last_of V.faults V.log_faults (shown self.old.device))) cache now
             → GivesCache device.log device.halted (V.story device.volume) (V.files device.volume) now
             → AreParts self.new.parts.items now
             × GivesCache (shown self.new.device).log (shown self.new.device).halted

@@ -89,7 +89,7 @@ fn a_history(rt: HostRuntime) -> Result<(), Fail> {
     let mut history = EntryList::new(alloc);
     history.push(commit(alloc, rids(alloc, &[FIRST])?)?)?;
     history.push(definition(alloc)?)?;
-    let printed = history_text(alloc, history.as_slice())?;
+    let printed = history_text(alloc, history.as_slice(), &[])?;
     let want =
         "! HISTORY 0 64 COMMIT +#1:0@1 ~#1:0@4294967295 -#1:0 ~#1:0@4\n! HISTORY 1 1 DEFINE\n! OK 2\n";
     assert_eq!(rt; printed.as_str(), want);

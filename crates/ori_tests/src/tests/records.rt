@@ -1,12 +1,12 @@
 // Records by their bytes: worked out by hand, or made by `bench/records.py`, which shares nothing with the store.
-use ori_bytes::{Blob, NoMemory, Rid};
+use ori_bytes::{NoMemory, Rid};
 use ori_model::Row;
 use ori_record::{read, spelled_writable, write};
 use ori_text::row_json;
 use std::alloc::Global;
 use std::test::Fail;
 
-const RID: Rid = Rid {
+pub const RID: Rid = Rid {
     cluster: 3,
     position: 1,
 };
@@ -27,7 +27,7 @@ fn read_as(alloc: Global, bytes: &[u8]) -> Result<String, NoMemory> {
 }
 
 // Whether writing what bytes spell gives the bytes again.
-fn come_back(alloc: Global, bytes: &[u8]) -> bool {
+pub fn come_back(alloc: Global, bytes: &[u8]) -> bool {
     // What was read can be written.
     spelled_writable();
     let Ok((stored, bags)) = read(alloc, bytes, RID) else {
@@ -37,16 +37,6 @@ fn come_back(alloc: Global, bytes: &[u8]) -> bool {
         return false;
     };
     again.as_slice() == bytes
-}
-
-// A record of class Doc whose field `a` is a list in a list, and so on, so many deep.
-fn deep(alloc: Global, levels: u32) -> Result<Blob, NoMemory> {
-    let mut bytes = Blob::from_slice(alloc, b"\0\0\0\x01\0\x06Doc\x02a\0\0\0\x0d\x0a\0")?;
-    for _ in 1..levels {
-        bytes.extend_from_slice(b"\x02\x0a")?;
-    }
-    bytes.push(0)?;
-    Ok(bytes)
 }
 
 #[test]
@@ -106,15 +96,6 @@ fn records_come_back(rt: HostRuntime) -> Result<(), Fail> {
     ];
     for bytes in rows {
         assert!(rt; come_back(rt.alloc(), bytes));
-    }
-    Ok(())
-}
-
-#[test]
-fn depths_are_read(rt: HostRuntime) -> Result<(), Fail> {
-    for (levels, is_read) in [(1, true), (64, true), (65, false), (300, false)] {
-        let bytes = deep(rt.alloc(), levels)?;
-        assert_eq!(rt; come_back(rt.alloc(), bytes.as_slice()), is_read);
     }
     Ok(())
 }

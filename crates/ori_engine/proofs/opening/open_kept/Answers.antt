@@ -1,8 +1,9 @@
-use Rattle.std.proofs.Common.{◌≡◌, ◌∙◌, List, Option, Err, refl, sym, ap, subst}
+use Rattle.std.proofs.Common.{◌≡◌, ◌∙◌, List, Option, option_map, Err, refl, sym, ap, subst}
 use Rattle.std.proofs.lemmas.Result.{err_from_is_err_and}
 use Rattle.ori_spec_data.specs.Base.{RecordData}
 use Rattle.ori_rows.specs.Stage.{IsDatabase}
 use Rattle.ori_log.specs.Files.{files_data}
+use Rattle.ori_log.specs.Appending.{room_of}
 use Rattle.ori_log.specs.Forms.{BreaksFirst}
 use Rattle.ori_volume.proofs.Known.{some_map, tells_map, tells_then, tells_both}
 use Rattle.ori_volume.proofs.OnlyRead.{no_read}
@@ -10,9 +11,12 @@ use Rattle.ori_model.specs.declared.record.Stored.{Stored}
 use Rattle.ori_table.specs.Kept.{rows_of}
 use Rattle.ori_engine.specs.declared.fault.StartFault.TheVariants.{NotADatabase}
 use Rattle.ori_engine.specs.Openings.{IsStartedKept}
+use Rattle.ori_engine.specs.Doubts.{doubt_of}
 use Rattle.ori_engine.specs.Reading.{IsOpened}
+use Rattle.ori_engine.specs.States.{kept_of}
 use Rattle.ori_engine.proofs.Found.{found_started, is_database, no_database}
-use Rattle.ori_engine.proofs.Starting.{start_fails, starts, told_pages, told_kept, pages_told, found_in}
+use Rattle.ori_engine.proofs.OpenedRead.{told_tail, told_read, told_end}
+use Rattle.ori_engine.proofs.Starting.{start_fails, starts, starts_now, told_pages, told_kept, pages_told, found_in}
 use Rattle.ori_engine.proofs.Starting.{broken_form}
 use Rattle.ori_engine.proofs.opening.open_kept.Goals as goal
 
@@ -76,6 +80,39 @@ returns-clause-database g c =
     c.in_ok-pages.pages.items is (rows_of c.in_ok-table.table.0)
     c.in_ok-table.ensures.opened)
     c.in-Ok.ensures.value c.in-Ok.ensures.files c.in_ok-pages.ensures.value
+
+pub returns-clause-tail : goal.returns-clause-tail
+returns-clause-tail g c =
+    told_tail c.in-Ok.attached.0 c.begin.result.log c.in-Ok.attached.1 _ c.begin.ensures.log c.in-Ok.ensures.value
+
+pub returns-clause-read : goal.returns-clause-read
+returns-clause-read g c =
+    let same = sym (ap (λ (l : List (Option Stored)). rows_of l) c.begin.ensures.rows) in
+    let opened : IsOpened c.in_ok-pages.pages.items (rows_of c.begin.result.table.0) = subst (λ (l : List
+    (Option RecordData)). IsOpened c.in_ok-pages.pages.items l) same c.in_ok-table.ensures.opened in
+    told_read c.in-Ok.attached.0 c.in-Ok.attached.1 c.in_ok-pages.pages.items (kept_of c.begin.result)
+    c.begin.ensures.few opened (ap (option_map doubt_of) c.begin.ensures.fresh.doubt)
+    (c.begin.ensures.room ∙ ap room_of (sym c.begin.ensures.log)) c.begin.ensures.log _ _ _
+    c.in-Ok.ensures.value c.in-Ok.ensures.files c.in-Ok.ensures.stands c.in_ok-pages.ensures.value
+    c.in_ok-pages.ensures.same.files
+
+pub returns-clause-since_end : goal.returns-clause-since_end
+returns-clause-since_end g c =
+    let same = sym (ap (λ (l : List (Option Stored)). rows_of l) c.begin.ensures.rows) in
+    let opened : IsOpened c.in_ok-pages.pages.items (rows_of c.begin.result.table.0) = subst (λ (l : List
+    (Option RecordData)). IsOpened c.in_ok-pages.pages.items l) same c.in_ok-table.ensures.opened in
+    told_end c.in-Ok.attached.0 c.in-Ok.attached.1 c.in_ok-pages.pages.items (kept_of c.begin.result)
+    c.begin.ensures.few opened (ap (option_map doubt_of) c.begin.ensures.fresh.doubt)
+    (c.begin.ensures.room ∙ ap room_of (sym c.begin.ensures.log)) c.begin.ensures.log _ _ _ _ _
+    c.in-Ok.ensures.value c.in-Ok.ensures.files c.in-Ok.ensures.stands c.in_ok-pages.ensures.value
+    c.in_ok-pages.ensures.same.files
+    (tells_both _ _ _ _ _ _
+    (λ old mid new told told_mid attaches reads.
+    starts_now c.begin.result c.in-Ok.attached.0 c.in-Ok.attached.1 c.in_ok-pages.pages.items old mid new attaches reads
+    (pages_told c.in-Ok.attached.1 c.in_ok-pages.pages.items _ _
+    (g.met.V.Volume.tells_one c.attach.new.volume mid told_mid).files_now c.in_ok-pages.ensures.value)
+    c.begin.ensures.log c.begin.ensures.fresh c.begin.ensures.few opened)
+    c.in-Ok.ensures.crash c.in_ok-pages.ensures.same.story)
 
 pub returns-clause-crash : goal.returns-clause-crash
 returns-clause-crash g c =

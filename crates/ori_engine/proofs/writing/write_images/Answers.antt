@@ -3,7 +3,7 @@ use Rattle.ori_volume.proofs.Known.{tells_so}
 use Rattle.ori_spec_data.specs.Weighing.{record_need}
 use Rattle.ori_log.specs.Appending.{need_of, room_of}
 use Rattle.ori_log.specs.declared.fault.LogFault.TheVariants.{LogFull}
-use Rattle.ori_engine.proofs.Written.{need_is, room_left, writes_so}
+use Rattle.ori_engine.proofs.Written.{need_is, room_left, writes_so, files_so, grows_so}
 use Rattle.ori_engine.proofs.writing.write_images.Goals as goal
 
 pub returns-clause-full : goal.returns-clause-full
@@ -36,3 +36,14 @@ returns-clause-crash g c =
     let some : 0 < length c.args.images.now = omega (arith, c.if-len-eq0.false, c.len.ensures.value) in
     tells_so _ _ _ _ (λ old new was is appends. writes_so _ _ c.args.images.now _ old new some appends)
     c.append.ensures.crash
+
+pub returns-clause-files : goal.returns-clause-files
+returns-clause-files g c =
+    let some : 0 < length c.args.images.now = omega (arith, c.if-len-eq0.false, c.len.ensures.value) in
+    tells_so _ _ _ _ (λ old new was is appends. files_so _ _ c.args.images.now _ old new some appends)
+    c.append.ensures.files
+
+pub returns-clause-counts : goal.returns-clause-counts
+returns-clause-counts g c =
+    let some : 0 < length c.args.images.now = omega (arith, c.if-len-eq0.false, c.len.ensures.value) in
+    grows_so c.args.log.now c.append.new.self c.args.images.now c.append.result some c.append.ensures.counts

@@ -29,6 +29,7 @@ returns-clause-read g c = λ content is.
 
 pub returns-clause-home : goal.returns-clause-home
 returns-clause-home g c = λ content is.
-    subst (λ (l : List ℕ). IfSome (g.V.Volume.files c.write_home.new.self.volume) (λ files. IsHome c.args.page l files.pages))
+    subst (λ (l : List ℕ). IfSome (g.V.Volume.files c.write_home.new.self.volume)
+    (λ files. IsHome c.args.page l files.pages))
     (same_content (place_at c.args.part.now c.args.page) content c.in-Some.content.now is c.in-Some.ensures)
     c.in_ok-write_home.ensures.home

@@ -1,4 +1,5 @@
-use Rattle.std.proofs.Common.{List, ℕ, Option, None, Some, Result, Ok, Err, IfSome, OnOk, ◌≡◌, ap, ◌∙◌, sym, subst, length, ◌*◌}
+use Rattle.std.proofs.Common.{List, ℕ, Option, None, Some, Result, Ok, Err}
+use Rattle.std.proofs.Common.{IfSome, OnOk, ◌≡◌, ap, ◌∙◌, sym, subst, length, ◌*◌}
 use Rattle.ori_bytes.specs.declared.limits.TheConstants.{PAGE_BYTES}
 use Rattle.ori_volume.specs.declared.file.FileNo.TheVariants.{Pages}
 use Rattle.ori_volume.specs.Disk.{Files}

@@ -10,13 +10,13 @@ use Rattle.ori_posmap.proofs.writing.set.Goals as goal
 pub returns-in-Never-clause-why : goal.returns-in-Never-clause-why
 returns-in-Never-clause-why g c = λ pages at. (
   inl refl,
-  λ m i.
+  λ m i live.
       let z = to_z w64 (of_z w64 c.args.position) in
       let long : FitsSigned w64 c.args.position = search rules in
       let same = to_z-of_z w64 c.args.position long in
       let p = c.in_ok-found.ensures.pages pages at in
       let n = subst (Finds pages c.args.dir z) c.in-Never.is p.1 in
-      not_live m c.args.position (λ q e. (n m i).1 q (same ∙ e)) (c.requires pages at m i),
+      not_live m c.args.position (λ q e. (n m i).1 q (same ∙ e)) live,
 )
 
 pub returns-clause-pages : goal.returns-clause-pages

@@ -1,4 +1,5 @@
 use Rattle.std.proofs.Common.{refl, sym, ◌∙◌, None, arith}
+use Rattle.ori_engine.specs.Reopening.{told_now}
 use Rattle.ori_script.specs.Top.{outside}
 use Rattle.ori_script.proofs.Outcomes.{run_over, faults_later, log_faults_later, end_of_run, not_opened, was_run}
 use Rattle.ori_script.proofs.script.run_script.Goals as goal
@@ -29,7 +30,8 @@ returns-clause-promises g c =
     rw out.status (was_run old new c.run_lines-status.result _ _ _ ended.run
     (run_over old new _ _ _ _ _ _ start.found out.report start.since ran.stays.opening out.counts ended
     c.is_initial-was_empty.ensures)
-    (out.crash old.story (ran.stays.sound old.story start.sound)) start.database ran.source_cause ran.sink_cause
+    (out.crash (told_now old.files old.story) (ran.stays.sound (told_now old.files old.story) start.sound))
+    start.database ran.source_cause ran.sink_cause
     (record {
       source = ran.source_later;
       sink = ran.sink_later;

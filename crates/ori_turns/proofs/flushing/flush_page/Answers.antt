@@ -19,7 +19,7 @@ returns-clause-crash g c = (
   c.in_ok-device.device,
   c.flush-done.new.device,
   c.in_ok-device.ensures.told,
-  c.give_device.ensures.seat ∙ ap (gave_device c.flush-done.new.device _ _) c.in_ok-device.ensures.seat,
+  c.give_device.ensures.seat ∙ ap (gave_device c.flush-done.new.device _) c.in_ok-device.ensures.seat,
   c.in_ok-device.ensures.faults,
   c.flush-done.ensures.faults,
   c.flush-done.ensures.log_faults,

@@ -13,14 +13,16 @@ returns-in-Ok-clause-decided g c = c.in-Ok.ensures.decided (opening_of c.args.se
 
 pub returns-in-Ok-clause-endures : goal.returns-in-Ok-clause-endures
 returns-in-Ok-clause-endures g c = record {
-  sound = λ first. sound_on (kept_of c.args.self.now.kept) (kept_of c.commit.new.self) first _ _ c.in-Ok.ensures.crash;
+  sound = λ first. sound_on (kept_of c.args.self.now.kept) (kept_of c.commit.new.self) first _ _ _ _
+      c.in-Ok.ensures.crash c.in-Ok.ensures.reads;
   lent = refl;
   below = refl;
 }
 
 pub returns-in-Err-clause-endures : goal.returns-in-Err-clause-endures
 returns-in-Err-clause-endures g c = record {
-  sound = λ first. sound_on (kept_of c.args.self.now.kept) (kept_of c.commit.new.self) first _ _ c.in-Err.ensures.crash;
+  sound = λ first. sound_on (kept_of c.args.self.now.kept) (kept_of c.commit.new.self) first _ _ _ _
+      c.in-Err.ensures.crash c.in-Err.ensures.reads;
   lent = refl;
   below = refl;
 }

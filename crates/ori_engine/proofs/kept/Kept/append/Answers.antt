@@ -1,5 +1,5 @@
-use Rattle.std.proofs.Common.{◌≡◌, ◌≤◌, ◌<◌, ℕ, length, ◌++◌, [], ◌∷◌, Some, Ok, Err, inr, option_map, refl, sym, ◌∙◌}
-use Rattle.std.proofs.Common.{ap, subst, arith}
+use Rattle.std.proofs.Common.{◌≡◌, ◌≤◌, ◌<◌, ℕ, ◌+◌, length, ◌++◌, [], ◌∷◌, Some, Ok, Err, inr, option_map, refl, sym}
+use Rattle.std.proofs.Common.{◌∙◌, ap, subst, arith}
 use Rattle.ori_volume.proofs.Known.{tells_so}
 use Rattle.ori_spec_data.specs.Apply.{fresh}
 use Rattle.ori_spec_data.specs.Weighing.{record_need, log_need}
@@ -10,8 +10,10 @@ use Rattle.ori_model.specs.Data.{tx_of, entry_of, entries_of}
 use Rattle.ori_rows.specs.Rows.{base_with}
 use Rattle.ori_table.specs.Kept.{rows_of}
 use Rattle.ori_engine.specs.Commits.{KeptData}
-use Rattle.ori_engine.specs.States.{kept_of, Writes}
+use Rattle.ori_engine.specs.Doubts.{doubt_of}
+use Rattle.ori_engine.specs.States.{kept_of, Writes, WritesFiles, Grows}
 use Rattle.ori_engine.proofs.Appended.{appended_safe, doubted_safe}
+use Rattle.ori_engine.proofs.Reread.{joined_read, doubted_read}
 use Rattle.ori_engine.proofs.Deciding.{are_fresh, allowed, granted, accepts, at_least, not_enough, not_full}
 use Rattle.ori_engine.proofs.kept.Kept.append.Goals as goal
 
@@ -48,11 +50,15 @@ returns-in-Err g c =
     let new : KeptData = record {
       rows = rows_of c.args.self.now.table.0;
       log = c.write_images.new.log;
+      room = c.args.self.now.room;
       feed = entries_of c.args.self.now.feed.items;
       marks = c.args.self.now.marks.items;
       halted = Some c.faults.result;
-      doubt = Some (entry_of c.args.prepared.entry);
+      doubt = Some (record { tail = c.tail-tail.result + 1; entry = entry_of c.args.prepared.entry });
     } in
+    let doubt : new.doubt
+    ≡ Some (record { tail = c.args.self.now.log.tail + 1; entry = entry_of c.args.prepared.entry }) =
+    ap (λ (n : ℕ). Some (record { tail = n + 1; entry = entry_of c.args.prepared.entry })) c.tail-tail.ensures in
     record {
       decided = λ opening. (
         granted c.args.self.now c.args.session tx c.args.prepared opening p (omega (arith, need, failed.0, room)),
@@ -70,6 +76,12 @@ returns-in-Err g c =
           (entry_of c.args.prepared.entry)
           c.requires.formed p.asked.going c.keeps.ensures p.staged p.entry_is new old now c.in-Err.fault c.faults.result
           refl refl refl refl refl writes) c.in-Err.ensures.crash;
+      reads = tells_so _ _ _ _ (λ old now was is writes.
+          doubted_read (kept_of c.args.self.now) c.args.session tx c.args.prepared.staged
+          (entry_of c.args.prepared.entry) c.requires.formed p.asked.going c.keeps.ensures p.staged p.entry_is
+          c.in-Err.ensures.whole failed.0 new old now c.write_images.new.log c.in-Err.fault c.faults.result refl refl
+          refl doubt room (g.met.V.Volume.reads_bytes c.write_images.new.volume now is c.args.self.now.log.file) writes)
+          c.in-Err.ensures.files;
       marked = refl;
       faults = c.in-Err.ensures.faults.later;
       log_faults = c.in-Err.ensures.log_faults.later;
@@ -105,8 +117,27 @@ returns-clause-crash g c =
     c.requires.formed p.asked.going c.keeps.ensures p.staged p.entry_is (kept_of c.join.new.self) old now
     c.join.ensures.rows c.join.ensures.feed
     (c.join.ensures.marks ∙ ap (λ (m : ℕ). c.args.self.now.marks.items ++ m ∷ []) (c.moment.ensures ∙ counted))
-    (ap (option_map entry_of) c.join.ensures.doubt)
+    (ap (option_map doubt_of) c.join.ensures.doubt)
     (subst (λ (l : Log). Writes {T = Unit {0}} {E = LogFault} c.args.self.now.log l c.args.prepared.staged.images
     (Ok tt)
     old now) (sym c.join.ensures.log) writes))
     c.in_default.ensures.crash
+
+pub returns-clause-reads : goal.returns-clause-reads
+returns-clause-reads g c =
+    let tx = tx_of c.args.tx.now in
+    let p = c.requires.prepared in
+    let needed : ℕ = record_need (length c.args.prepared.staged.images) in
+    let enough : needed ≤ room_of c.args.self.now.log =
+    at_least _ _ (λ short. let full = (c.in_default.ensures.full short).0 in absurd (cc full)) in
+    let log = sym c.join.ensures.log in
+    tells_so _ _ _ _ (λ old now was is writes.
+    joined_read (kept_of c.args.self.now) c.args.session tx c.args.prepared.staged (entry_of c.args.prepared.entry)
+    c.requires.formed p.asked.going c.keeps.ensures p.staged p.entry_is c.in_default.ensures.whole enough
+    (kept_of c.join.new.self) old now c.join.ensures.rows
+    (c.join.ensures.room_is ∙ c.room-self.ensures ∙ ap room_of log)
+    (ap (option_map doubt_of) c.join.ensures.doubt)
+    (subst (λ (l : Log). WritesFiles {T = Unit {0}} {E = LogFault} c.args.self.now.log l c.args.prepared.staged.images
+    (Ok tt) old now) log writes)
+    (subst (λ (l : Log). Grows c.args.self.now.log l c.args.prepared.staged.images) log c.in_default.ensures.counts))
+    c.in_default.ensures.files

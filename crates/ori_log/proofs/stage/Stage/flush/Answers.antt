@@ -19,7 +19,8 @@ returns-in_err-write_at-clause-files g c =
     tells_map _ _ _ _
     (λ old new told writes.
     flush_files_failed c.args.file c.args.self.now c.args.self.now (take c.args.self.now.filled c.deref.result.now) old
-    new (ap (λ (l : List ℕ). take c.args.self.now.filled l) c.deref.ensures.value) c.in_err-write_at.field-0.0
+    new c.requires.room (ap (λ (l : List ℕ). take c.args.self.now.filled l) c.deref.ensures.value)
+    c.in_err-write_at.field-0.0
     c.from_residual.result c.from_residual.ensures.0 writes)
     c.in_err-write_at.ensures.files
 
@@ -37,5 +38,5 @@ returns-clause-files g c =
     tells_map _ _ _ _
     (λ old new told writes.
     flush_files_done c.args.file c.args.self.now _ (take c.args.self.now.filled c.deref.result.now) old new
-    (ap (λ (l : List ℕ). take c.args.self.now.filled l) c.deref.ensures.value) refl refl writes)
+    c.requires.room (ap (λ (l : List ℕ). take c.args.self.now.filled l) c.deref.ensures.value) refl refl writes)
     c.in_ok-write_at.ensures.files

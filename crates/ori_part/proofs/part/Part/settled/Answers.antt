@@ -1,5 +1,6 @@
 use Rattle.std.proofs.Common.{◌<◌, ◌≤◌, length, ap, ◌∙◌, arith}
 use Rattle.ori_part.specs.Parts.{first_unwritten}
+use Rattle.ori_part.proofs.Held.{settled_held}
 use Rattle.ori_part.proofs.Settling.{long, first_stays, settled_next, all_places, all_clean}
 use Rattle.ori_part.proofs.part.Part.settled.Goals as goal
 
@@ -33,8 +34,8 @@ loop-at-preserved c =
       i.2,
     )
 
-pub returns : goal.returns
-returns c =
+pub returns-clause-settled : goal.returns-clause-settled
+returns-clause-settled c =
     let i = c.loop-at.invariant in
     let end : length c.self.inside.places.entries ≤ c.loop-at.at
     = omega (arith, c.loop-at-test.false, c.len-at-end.ensures.len) in
@@ -42,3 +43,13 @@ returns c =
       places = i.0.places ∙ all_places c.loop-at.at c.self.inside.places.entries end;
       clean = all_clean c.loop-at.at c.self.inside.places.entries _ _ end i.0.clean;
     })
+
+pub returns-clause-held : goal.returns-clause-held
+returns-clause-held c =
+    let i = c.loop-at.invariant in
+    let end : length c.self.inside.places.entries ≤ c.loop-at.at
+    = omega (arith, c.loop-at-test.false, c.len-at-end.ensures.len) in
+    rw (← c.self.view_is) (settled_held _ _ c.len-at-end.ensures.unique (record {
+      places = i.0.places ∙ all_places c.loop-at.at c.self.inside.places.entries end;
+      clean = all_clean c.loop-at.at c.self.inside.places.entries _ _ end i.0.clean;
+    }))
