@@ -66,7 +66,7 @@ one_pages image a b is_a is_b =
 
 -- ---- the list of the pages, page by page
 
-pages_length : (files : FilesData) (records : List (List ImageData)) (page n : ℕ)
+pub pages_length : (files : FilesData) (records : List (List ImageData)) (page n : ℕ)
     → length (pages_from files records page n) ≡ n
 pages_length files records page zero = refl
 pages_length files records page (suc n) = ap suc (pages_length files records (page + 1) n)

@@ -1,6 +1,6 @@
 -- Cover through the calls of the log: an append and a switch.
 use Rattle.std.proofs.Common.{◌<◌, ◌≤◌, true, ◌≡◌, inl, inr, ⊎_elim, true, List, [], ◌∷◌, ◌++◌}
-use Rattle.std.proofs.Common.{Result, Ok, Err, OnOk, refl, sym, ◌∙◌, ap, subst, arith}
+use Rattle.std.proofs.Common.{Result, Ok, Err, OnOk, refl, sym, ◌∙◌, ap, subst, arith, length-append}
 use Rattle.std.proofs.lemmas.Option.{none-some}
 use Rattle.ori_bytes.specs.declared.limits.TheConstants.{MAX_LOG_BYTES}
 use Rattle.ori_volume.specs.declared.file.FileNo.{FileNo}
@@ -98,11 +98,12 @@ module _ (log : Log) (images : List ImageData) (dirty : Dirty) (pages put : Page
         covered = subst (λ (f : FileData). IsCovered dirty pages records f) same stands.covered;
         tail = λ image allowed. ⊎_elim (λ (tail : HasTail records image). inl tail)
             (λ (tail : HasTail (records ++ images ∷ []) image). inr (record {
-              records = records ++ images ∷ [];
+              found = records ++ images ∷ [];
               tail = tail;
               gives = gives_put images records pages put disk.pages
                   (subst (λ (f : FileData). Gives pages records f) same stands.covered.gives) are_put;
               named = λ page d some. named_more page records images d.content (stands.covered.last page d some);
+              number = inl (length-append records (images ∷ []));
             }))
             (moment.either image allowed);
       }
@@ -185,13 +186,14 @@ module _ (log : Log) (dirty : Dirty) (pages : PageList) (records : Records) (old
         tail = λ image allowed.
             let gives : GivesPages old_pages image = moment.gives image allowed in
             inr (record {
-              records = gives.records;
+              found = gives.records;
               tail = gives.tail;
               gives = subst (λ (f : FileData). Gives pages gives.records f) same
                   (homes_given pages (files_data image) gives.records old.pages (gives.gives ∙ pages_now)
                   (all_home dirty pages records old.pages stands.covered clean) stands.covered.gives.few
                   stands.covered.gives.greatest);
               named = λ page d some. absurd (none-some d (sym (clean page) ∙ some));
+              number = inr refl;
             });
       }
 

@@ -34,8 +34,8 @@ pub covers_either : (dirty : Dirty) (pages doubt : PageList) (records : Records)
 covers_either dirty pages doubt records disk covers image allowed =
     ⊎_elim (λ (tail : HasTail records image). inl
     (image_holds pages records disk image covers.sized covers.covered.gives allowed tail))
-    (λ (other : InDoubt dirty doubt disk.pages image). inr
-    (image_holds doubt other.records disk image covers.sized other.gives allowed other.tail))
+    (λ (other : InDoubt dirty pages doubt records disk.pages image). inr
+    (image_holds doubt other.found disk image covers.sized other.gives allowed other.tail))
     (covers.tail image allowed)
 
 pub either_same : (pages : PageList) (image : Files) → HoldsEither pages pages image → HoldsPages pages image
@@ -98,17 +98,19 @@ pub same_dirty : (dirty : Dirty) → Fewer dirty dirty
 same_dirty dirty page d some = (d, some)
 
 -- what a tail is, or what is in doubt, where the pages that are in doubt go on being given
-pub doubt_on : (dirty now : Dirty) (doubt : PageList) (f g : FileData) (old new : Files) (records : Records)
+pub doubt_on : (dirty now : Dirty) (pages doubt : PageList) (f g : FileData) (old new : Files) (records : Records)
     → Fewer dirty now → ((others : Records) → HasTail others old → HasTail others new)
-    → ((other : InDoubt dirty doubt f old) → Gives doubt other.records g)
-    → HasTail records old ⊎ InDoubt dirty doubt f old → HasTail records new ⊎ InDoubt now doubt g new
-doubt_on dirty now doubt f g old new records fewer tails gives either =
+    → ((other : InDoubt dirty pages doubt records f old) → Gives doubt other.found g)
+    → HasTail records old ⊎ InDoubt dirty pages doubt records f old
+    → HasTail records new ⊎ InDoubt now pages doubt records g new
+doubt_on dirty now pages doubt f g old new records fewer tails gives either =
     ⊎_elim (λ (tail : HasTail records old). inl (tails records tail))
-    (λ (other : InDoubt dirty doubt f old). inr (record {
-      records = other.records;
-      tail = tails other.records other.tail;
+    (λ (other : InDoubt dirty pages doubt records f old). inr (record {
+      found = other.found;
+      tail = tails other.found other.tail;
       gives = gives other;
       named = λ page d some. let was = fewer page d some in other.named page was.0 was.1;
+      number = other.number;
     }))
     either
 
@@ -118,7 +120,8 @@ pub covers_fewer : (dirty now : Dirty) (pages doubt : PageList) (records : Recor
 covers_fewer dirty now pages doubt records disk covers fewer covered = record {
   sized = covers.sized;
   covered = covered;
-  tail = λ image allowed. doubt_on dirty now doubt disk.pages disk.pages image image records fewer (λ others tail. tail)
+  tail = λ image allowed. doubt_on dirty now pages doubt disk.pages disk.pages image image records fewer
+      (λ others tail. tail)
       (λ other. other.gives) (covers.tail image allowed);
 }
 
@@ -172,7 +175,8 @@ tail_apart (byte ∷ bytes) image xs records tail = tail
 module _ (dirty : Dirty) (pages doubt : PageList) (records : Records) (old new : Disk)
     (covers : Covers dirty pages doubt records old) (sound : IsImage old (files_of old)) where
   pages_keep : new ≡ with_file old Pages new.pages → IsCovered dirty pages records new.pages
-      → ((image : Files) → (other : InDoubt dirty doubt old.pages image) → Gives doubt other.records new.pages)
+      → ((image : Files) → (other : InDoubt dirty pages doubt records old.pages image)
+      → Gives doubt other.found new.pages)
       → Covers dirty pages doubt records new
   pages_keep only covered keeps = record {
     sized = pages_sized old new covers.sized only;
@@ -181,7 +185,7 @@ module _ (dirty : Dirty) (pages doubt : PageList) (records : Records) (old new :
         let before : Files = with_file image Pages old.pages.bytes in
         let moved : IsImage (with_file old Pages new.pages) image =
         subst (λ (d : Disk). IsImage d image) only allowed in
-        doubt_on dirty dirty doubt old.pages new.pages before image records (same_dirty dirty)
+        doubt_on dirty dirty pages doubt old.pages new.pages before image records (same_dirty dirty)
         (λ others tail. tail_apart image.master image old.pages.bytes others tail) (keeps before)
         (covers.tail before (image_before old new.pages image sound moved));
   }
@@ -194,7 +198,7 @@ module _ (dirty : Dirty) (pages doubt : PageList) (records : Records) (old new :
       (torn_stay page old.pages new.pages (sound Pages) change.here)
       (torn_long page old.pages new.pages (sound Pages) change.here))
       (λ image other. let named = other.named page (unwritten content) is in
-      gives_stay doubt other.records page named.0 old.pages new.pages other.gives named.1
+      gives_stay doubt other.found page named.0 old.pages new.pages other.gives named.1
       (torn_stay page old.pages new.pages (sound Pages) change.here)
       (torn_long page old.pages new.pages (sound Pages) change.here))
 
@@ -203,8 +207,8 @@ module _ (dirty : Dirty) (pages doubt : PageList) (records : Records) (old new :
       pages_keep change.elsewhere
       (subst (λ (f : FileData). IsCovered dirty pages records f) (sym change.here)
       (covered_synced dirty pages records old.pages covers.covered (sound Pages)))
-      (λ image other. subst (λ (f : FileData). Gives doubt other.records f) (sym change.here)
-      (gives_image doubt other.records old.pages old.pages.bytes other.gives (sound Pages)))
+      (λ image other. subst (λ (f : FileData). Gives doubt other.found f) (sym change.here)
+      (gives_image doubt other.found old.pages old.pages.bytes other.gives (sound Pages)))
 
   pub covers_same : ChangesFile Pages (λ f g. g ≡ f) old new → Covers dirty pages doubt records new
   covers_same change =

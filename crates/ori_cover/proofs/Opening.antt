@@ -1,15 +1,15 @@
 -- Cover after an opening: the tail's last images are the dirty pages.
 use Rattle.std.proofs.Common.{inr, ◌≤◌, ◌≡◌, ⊎_elim, ℕ, List, []}
 use Rattle.std.proofs.Common.{Option, None, Result, Ok, Err, OnOk, IfOk, refl, sym, ◌∙◌, ap, subst, arith}
-use Rattle.std.proofs.Common.{inl, length}
+use Rattle.std.proofs.Common.{inl, length, ◌<◌, ◌∷◌, max, ◌==◌, if◌then◌else◌, Some}
 use Rattle.ori_bytes.specs.declared.limits.TheConstants.{MAX_LOG_BYTES}
 use Rattle.ori_volume.specs.declared.file.FileNo.TheVariants.{Master, LogA, LogB, Pages}
 use Rattle.ori_volume.specs.Disk.{FileData, Disk, Files, files_of, firm_file}
 use Rattle.ori_volume.specs.Story.{Story}
 use Rattle.ori_volume.specs.Runs.{EachImage}
 use Rattle.ori_volume.proofs.RunSteps.{run_weaker}
-use Rattle.ori_log.specs.Log.{FilesData, ImageData, last_image, pages_of, IsMade}
-use Rattle.ori_log.specs.Log.{IsMade}
+use Rattle.ori_log.specs.Log.{FilesData, ImageData, images_of, first_of, last_image, pages_named, pages_at_home}
+use Rattle.ori_log.specs.Log.{pages_of, IsMade}
 use Rattle.ori_log.specs.Files.{files_data}
 use Rattle.ori_log.specs.Logs.{HasTail}
 use Rattle.ori_log.specs.Opening.{AllFirm, IsNew, IsEmpty, made_files}
@@ -23,6 +23,7 @@ use Rattle.ori_cover.specs.Cover.{IsSized, IsCovered, Stands}
 use Rattle.ori_cover.specs.Steps.{OpensPages}
 use Rattle.ori_cover.proofs.Holding.{IsForm, unmade_tail, form_tail, holds_tail, holds_given, holds_one}
 use Rattle.ori_cover.proofs.Covering.{Records, PageList, tail_covered}
+use Rattle.ori_cover.proofs.Given.{image_named, pages_length, count_of}
 use Rattle.ori_cover.specs.Reading.{OpensPagesRead}
 use Rattle.ori_log.specs.Files.{file_named}
 use Rattle.ori_log.specs.Appending.{StandsIn}
@@ -77,6 +78,51 @@ module _ (files : Files) (records : Records) (log : Log) (images : List ImageDat
     read_covered : (pages : PageList) (file : FileData) → Gives pages records file → IsCovered now pages records file
     read_covered pages file gives = tail_covered now pages records file now_is gives
 
+-- ---- how many pages were read
+
+some_first : (o p : Option (List ℕ)) (content : List ℕ) → p ≡ Some content
+    → (c : List ℕ) × (first_of o p ≡ Some c)
+some_first None p content is = (content, is)
+some_first (Some c) p content is = (c, refl)
+
+-- where each page with an image is below a number, so are the pages that are named
+named_below : (images : List ImageData) (n : ℕ)
+    → ((page : ℕ) (content : List ℕ) → last_image page images ≡ Some content → page < n) → pages_named images ≤ n
+named_below [] n each = omega arith
+named_below (i ∷ images) n each =
+    let own : (if i.page == i.page then Some i.content else None) ≡ Some i.content = grind arith in
+    let here = some_first (last_image i.page images) _ i.content own in
+    omega (
+      arith,
+      each i.page here.0 here.1,
+      named_below images n (λ page content is. each page content
+          (ap (λ (o : Option (List ℕ)). first_of o (if i.page == page then Some i.content else None)) is)),
+    )
+
+-- where each page has the same last image, the same pages are named
+named_same : (a b : List ImageData) → ((page : ℕ) → last_image page a ≡ last_image page b)
+    → pages_named a ≡ pages_named b
+named_same a b same =
+    omega (
+      arith,
+      named_below a (pages_named b) (λ page content is. image_named page content b (sym (same page) ∙ is)),
+      named_below b (pages_named a) (λ page content is. image_named page content a (same page ∙ is)),
+    )
+
+-- each page has an image or a byte at home
+pub attached_pages : (files : Files) (records : Records) (log : Log) (images : List ImageData)
+    → AttachesTo files records log images → (pages : PageList) × HoldsPages pages files
+    × (length pages ≡ max (pages_named images) (pages_at_home files.pages))
+attached_pages files records log images attaches = (
+  pages_of (files_data files) records,
+  record { records = records; form = attaches.form; gives = refl },
+  pages_length (files_data files) records 0 (count_of (files_data files) records)
+      ∙ ap (λ (n : ℕ). max n (pages_at_home files.pages))
+      (sym (named_same images (images_of records) attaches.lists.last)),
+)
+
+-- ---- what an opening keeps
+
 -- the homes are as they were
 homes_kept : (files : Files) (disk : Disk) → IsKeptOrMade files (files_of disk) → files.pages ≡ disk.pages.bytes
 homes_kept files disk kept =
@@ -118,17 +164,19 @@ attach_sized files records log images disk attaches kept firm attached =
 pub attach_stands : (files : Files) (records : Records) (log : Log) (images : List ImageData) (pages : PageList)
     (disk : Disk) (dirty now : Dirty) → AttachesTo files records log images → HoldsPages pages files
     → IsKeptOrMade files (files_of disk) → AllFirm disk → IsAttached log records disk → AreClean dirty
-    → AreInstalled images dirty now → Stands log records now pages disk
+    → AreInstalled images dirty now → AreOfTail records now × Stands log records now pages disk
 attach_stands files records log images pages disk dirty now attaches holds kept firm attached clean installed =
     let same : firm_file files.pages ≡ disk.pages =
-    ap (λ (l : List ℕ). firm_file l) (homes_kept files disk kept) ∙ sym (firm_is disk.pages (firm Pages)) in
-    record {
-      sized = attach_sized files records log images disk attaches kept firm attached;
-      attached = attached;
-      covered = read_covered files records log images attaches dirty now clean installed pages disk.pages
-          (subst (λ (f : FileData). Gives pages records f) same
-          (read_gives files records log images attaches pages holds));
-    }
+    ap (λ (l : List ℕ). firm_file l) (homes_kept files disk kept) ∙ sym (firm_is disk.pages (firm Pages)) in (
+      now_is files records log images attaches dirty now clean installed,
+      record {
+        sized = attach_sized files records log images disk attaches kept firm attached;
+        attached = attached;
+        covered = read_covered files records log images attaches dirty now clean installed pages disk.pages
+            (subst (λ (f : FileData). Gives pages records f) same
+            (read_gives files records log images attaches pages holds));
+      },
+    )
 
 -- an opening
 pub opens_pages : {E : Type 0} (result : Result (Log × List ImageData) E) (old new : Story) → Attaches result old new
@@ -149,7 +197,7 @@ opens_pages {E} result old new attaches pages holds = record {
         → IfOk answer (λ pair. (records : Records) × AttachesTo (files_of old.now.disk) records pair.0 pair.1
         × IsAttached pair.0 records new.now.disk)
         → IfOk answer (λ pair. (records : Records) × ((dirty now : Dirty) → AreClean dirty
-        → AreInstalled pair.1 dirty now → Stands pair.0 records now pages new.now.disk))
+        → AreInstalled pair.1 dirty now → AreOfTail records now × Stands pair.0 records now pages new.now.disk))
     on_ok (Err fault) firm reads attached = tt
     on_ok (Ok pair) firm reads (records, attached_to, attached) = (
       records,
@@ -183,15 +231,18 @@ module _ (files now_files : Files) (records : Records) (log : Log) (images : Lis
   pub opens_pages_read : StandsIn log now_files → OpensPagesRead log images records files now_files
   opens_pages_read stands pages dirty now holds clean installed =
       let homes : files.pages ≡ now_files.pages = bytes_kept files now_files kept in
-      let short = kept_short files now_files records kept attaches.form in
-      record {
-        sized = record { some = stands.some; one = short.0; log_a = short.1; log_b = short.2 };
-        stands = stands;
-        holds = log_of now_files.master now_files log.file records stands.some
-            (stands.named ∙ ap file_named stands.byte)
-            tail_now;
-        place = attaches.place;
-        covered = subst (λ (l : List ℕ). IsCovered now pages records (firm_file l)) homes
-            (read_covered files records log images attaches dirty now clean installed pages (firm_file files.pages)
-            (read_gives files records log images attaches pages holds));
-      }
+      let short = kept_short files now_files records kept attaches.form in (
+        now_is files records log images attaches dirty now clean installed,
+        record {
+          sized = record { some = stands.some; one = short.0; log_a = short.1; log_b = short.2 };
+          stands = stands;
+          holds = log_of now_files.master now_files log.file records stands.some
+              (stands.named ∙ ap file_named stands.byte)
+              tail_now;
+          counts = attaches.counts;
+          place = attaches.place;
+          covered = subst (λ (l : List ℕ). IsCovered now pages records (firm_file l)) homes
+              (read_covered files records log images attaches dirty now clean installed pages (firm_file files.pages)
+              (read_gives files records log images attaches pages holds));
+        },
+      )

@@ -56,9 +56,9 @@ pub covers_read : (dirty : Dirty) (pages doubt : PageList) (records : Records) (
 covers_read dirty pages doubt records disk covers sound = record {
   sized = read_sized disk covers.sized sound;
   covered = covered_synced dirty pages records disk.pages covers.covered (sound Pages);
-  tail = doubt_on dirty dirty doubt disk.pages (firm_file disk.pages.bytes) (files_of disk) (files_of disk) records
-      (same_dirty dirty) (λ others tail. tail)
-      (λ other. gives_image doubt other.records disk.pages disk.pages.bytes other.gives (sound Pages))
+  tail = doubt_on dirty dirty pages doubt disk.pages (firm_file disk.pages.bytes) (files_of disk) (files_of disk)
+      records (same_dirty dirty) (λ others tail. tail)
+      (λ other. gives_image doubt other.found disk.pages disk.pages.bytes other.gives (sound Pages))
       (covers.tail (files_of disk) sound);
 }
 
@@ -80,6 +80,7 @@ stands_read log records dirty pages disk stands sound =
       };
       holds = image_log records log.place (of_file disk log.file) (of_file (files_of disk) log.file) attached.holds
           (sound log.file);
+      counts = attached.counts;
       place = attached.holds.place_is;
       covered = covered_synced dirty pages records disk.pages stands.covered (sound Pages);
     }
@@ -140,7 +141,7 @@ module _ (dirty : Dirty) (pages doubt : PageList) (records : Records) where
   read_fewer now files covers fewer covered = record {
     sized = covers.sized;
     covered = covered;
-    tail = doubt_on dirty now doubt (firm_file files.pages) (firm_file files.pages) files files records fewer
+    tail = doubt_on dirty now pages doubt (firm_file files.pages) (firm_file files.pages) files files records fewer
         (λ others tail. tail) (λ other. other.gives) covers.tail;
   }
 
@@ -155,10 +156,11 @@ module _ (dirty : Dirty) (pages doubt : PageList) (records : Records) where
         sized = pages_sized (firm_disk old) (firm_disk new) covers.sized (ap firm_disk change.elsewhere);
         covered = covered_stay dirty pages records (firm_file old.pages) covers.covered page content
             (firm_file new.pages) is stay long;
-        tail = doubt_on dirty dirty doubt (firm_file old.pages) (firm_file new.pages) old new records (same_dirty dirty)
+        tail = doubt_on dirty dirty pages doubt (firm_file old.pages) (firm_file new.pages) old new records
+            (same_dirty dirty)
             (λ others tail. tail_stays old new others change.elsewhere tail)
             (λ other. let named = other.named page (unwritten content) is in
-            gives_stay doubt other.records page named.0 (firm_file old.pages) (firm_file new.pages) other.gives named.1
+            gives_stay doubt other.found page named.0 (firm_file old.pages) (firm_file new.pages) other.gives named.1
             stay long)
             covers.tail;
       }
@@ -242,6 +244,7 @@ stands_on_read log records dirty now pages doubt old new stands only covers =
         within = subst (λ (l : List ℕ). log.place < length l) here stands.stands.within;
       };
       holds = subst (λ (l : List ℕ). IsLog l records) here stands.holds;
+      counts = stands.counts;
       place = stands.place;
       covered = covers.covered;
     }
@@ -295,9 +298,10 @@ module _ (log : Log) (images : List ImageData) (dirty : Dirty) (pages put : Page
 
   put_read : (new_log : Log) (now : Dirty)
       → new ≡ with_file old log.file (appended (of_file old log.file) log.place images) → StandsIn new_log new
-      → new_log.file ≡ log.file → new_log.place ≡ log.place + (need_of images - 1) → AreInstalled images dirty now
+      → new_log.file ≡ log.file → new_log.place ≡ log.place + (need_of images - 1)
+      → new_log.tail ≡ log.tail + 1 → AreInstalled images dirty now
       → StandsRead new_log (records ++ images ∷ []) now put new
-  put_read new_log now is stands_in file place installed =
+  put_read new_log now is stands_in file place more installed =
       let log_now : List ℕ = appended (of_file old log.file) log.place images in
       let apart = log_apart log.file old log_now log.in_log in
       let master : new.master ≡ old.master = ap (λ (f : Files). f.master) is ∙ apart.0 in
@@ -313,6 +317,7 @@ module _ (log : Log) (images : List ImageData) (dirty : Dirty) (pages put : Page
         stands = stands_in;
         holds = subst (λ (l : List ℕ). IsLog l (records ++ images ∷ [])) here
             (appended_log (of_file old log.file) log.place records images stands.holds stands.place record_is);
+        counts = more ∙ ap (λ (n : ℕ). n + 1) stands.counts ∙ sym (length-append records (images ∷ []));
         place = omega (arith, place, stands.place, record_long records images);
         covered = subst (λ (l : List ℕ). IsCovered now put (records ++ images ∷ []) (firm_file l)) homes
             (covered_installed dirty pages records (firm_file old.pages) stands.covered images put now are_put
@@ -343,10 +348,11 @@ module _ (log : Log) (images : List ImageData) (dirty : Dirty) (pages put : Page
         covered = covered;
         tail = ⊎_elim (λ (is : IsLog log_now records). inl (log_tail log new records some named is))
             (λ (is : IsLog log_now (records ++ images ∷ [])). inr (record {
-              records = records ++ images ∷ [];
+              found = records ++ images ∷ [];
               tail = log_tail log new (records ++ images ∷ []) some named is;
               gives = gives_put images records pages put (firm_file new.pages) covered.gives are_put;
               named = λ page d some. named_more page records images d.content (covered.last page d some);
+              number = inl (length-append records (images ∷ []));
             }))
             either;
       }
@@ -355,7 +361,8 @@ module _ (log : Log) (images : List ImageData) (dirty : Dirty) (pages put : Page
 pub puts_record_read : {T E : Type 0} (log new_log : Log) (images : List ImageData) (result : Result T E)
     (old new : Files) → IsLogRecord images → need_of images ≤ room_of log
     → AppendsFiles log new_log images result old new → AreBytes (of_file new log.file)
-    → OnOk result ((new_log.place ≡ log.place + (need_of images - 1)) × (new_log.file ≡ log.file))
+    → OnOk result ((new_log.tail ≡ log.tail + 1) × (new_log.place ≡ log.place + (need_of images - 1))
+    × (new_log.file ≡ log.file))
     → PutsRecordRead log new_log images result old new
 puts_record_read log new_log images (Ok value) old new record_is fits appends bytes counts dirty pages put records
     stands are_put =
@@ -364,7 +371,7 @@ puts_record_read log new_log images (Ok value) old new record_is fits appends by
       failed = tt;
       done = λ now installed. put_read log images dirty pages put records old new stands record_is fits are_put
           new_log now
-          done.0 done.1 counts.1 counts.0 installed;
+          done.0 done.1 counts.2 counts.1 counts.0 installed;
     }
 puts_record_read log new_log images (Err fault) old new record_is fits appends bytes counts dirty pages put records
     stands are_put =
@@ -403,8 +410,9 @@ names_one test Pages in_log = absurd (cc in_log)
 module _ (log : Log) (dirty : Dirty) (pages : PageList) (records : Records) (old new : Files)
     (stands : StandsRead log records dirty pages old) (clean : AreClean dirty) where
   switch_read : (new_log : Log) → new ≡ switched_files log.file log.master old → StandsIn new_log new
-      → new_log.place ≡ 0 → new_log.file ≡ other_log log.file → StandsRead new_log [] dirty pages new
-  switch_read new_log is stands_in place file =
+      → new_log.tail ≡ 0 → new_log.place ≡ 0 → new_log.file ≡ other_log log.file
+      → StandsRead new_log [] dirty pages new
+  switch_read new_log is stands_in counts place file =
       let byte : List ℕ = ((log.master + 1) % 256) ∷ [] in
       let homes : old.pages ≡ new.pages =
       sym (ap (λ (f : Files). f.pages) is ∙ homes_apart log.file old (CLOSED_GATE ∷ []) (put_bytes old.master byte)) in
@@ -424,6 +432,7 @@ module _ (log : Log) (dirty : Dirty) (pages : PageList) (records : Records) (old
             (omega (arith, length-put old.master byte 0 (omega arith), stands.sized.one));
         stands = stands_in;
         holds = subst (λ (l : List ℕ). IsLog l []) here closed_log;
+        counts = counts;
         place = place;
         covered = subst (λ (l : List ℕ). IsCovered dirty pages [] (firm_file l)) homes
             (covered_switched dirty pages records (firm_file old.pages) stands.covered clean);
@@ -443,11 +452,12 @@ module _ (log : Log) (dirty : Dirty) (pages : PageList) (records : Records) (old
       subst (λ (l : List ℕ). IsLog l records)
       (sym (ap (λ (f : Files). of_file f log.file) cut.only
       ∙ log_there log.file old (of_file new other) new.master log.in_log)) stands.holds in
-      let none : HasTail [] new → InDoubt dirty pages (firm_file new.pages) new = λ tail. record {
-        records = [];
+      let none : HasTail [] new → InDoubt dirty pages pages records (firm_file new.pages) new = λ tail. record {
+        found = [];
         tail = tail;
         gives = homes_give dirty pages records (firm_file new.pages) covered clean;
         named = λ page d some. absurd (none-some d (sym (clean page) ∙ some));
+        number = inr refl;
       } in
       let some : 0 < length new.master =
       ⊎_elim (λ (same : new.master ≡ old.master). omega (arith, ap length same, stands.stands.some))
@@ -486,12 +496,12 @@ module _ (log : Log) (dirty : Dirty) (pages : PageList) (records : Records) (old
 -- a switch
 pub switches_log_read : {T E : Type 0} (log new_log : Log) (result : Result T E) (old new : Files)
     → SwitchesFiles log new_log result old new
-    → OnOk result ((new_log.place ≡ 0) × (new_log.file ≡ other_log log.file))
+    → OnOk result ((new_log.tail ≡ 0) × (new_log.place ≡ 0) × (new_log.file ≡ other_log log.file))
     → SwitchesLogRead log new_log result old new
 switches_log_read log new_log (Ok value) old new switches counts dirty pages records stands clean = record {
   failed = tt;
   done = switch_read log dirty pages records old new stands clean new_log switches.0 (switches.1 stands.stands) counts.0
-      counts.1;
+      counts.1 counts.2;
 }
 switches_log_read log new_log (Err fault) old new switches counts dirty pages records stands clean =
     record { failed = switch_fails_read log dirty pages records old new stands clean switches; done = tt }

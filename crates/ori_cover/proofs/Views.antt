@@ -46,6 +46,7 @@ read_same log records was now pages files same stands = record {
   sized = stands.sized;
   stands = stands.stands;
   holds = stands.holds;
+  counts = stands.counts;
   place = stands.place;
   covered = covered_same records was now pages _ same stands.covered;
 }

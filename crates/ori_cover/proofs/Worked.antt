@@ -253,10 +253,11 @@ in_doubt = record {
   };
   tail = λ image allowed. ⊎_elim (λ (tail : HasTail [] image). inl tail)
       (λ (tail : HasTail ([] ++ put_images ∷ []) image). inr (record {
-        records = records;
+        found = records;
         tail = tail;
         gives = gives (firm_file []) (omega arith);
         named = λ p d some. absurd (none-some d some);
+        number = inl refl;
       }))
       (each_has_either [] put_images 0 0 LogA at_gate (record { named = refl; firm = refl; least = omega arith })
       one_more image allowed);

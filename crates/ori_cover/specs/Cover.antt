@@ -1,6 +1,6 @@
 -- Cover: what holds between calls of the dirty pages, the tail of the log and the homes, so that each image that a
 -- crash may leave gives the pages.
-use Rattle.std.specs.Prelude.{◌≡◌, ◌⊎◌, ℕ, ◌<◌, ◌≤◌, true, List, length, Some, None}
+use Rattle.std.specs.Prelude.{◌≡◌, ◌⊎◌, ℕ, ◌+◌, ◌<◌, ◌≤◌, true, List, length, Some, None}
 use Rattle.ori_bytes.specs.declared.limits.TheConstants.{MAX_LOG_BYTES}
 use Rattle.ori_volume.specs.Disk.{FileData, Disk, Files}
 use Rattle.ori_volume.specs.Runs.{EachImage}
@@ -38,14 +38,17 @@ pub record Stands (log : Log) (records : List (List ImageData)) (dirty : Dirty) 
   pub attached : IsAttached log records disk
   pub covered : IsCovered dirty pages records disk.pages
 
--- An image with other records in its tail, which name each dirty page, and with which the file of pages stably gives
--- these pages.
-pub record InDoubt (dirty : Dirty) (pages : List (List ℕ)) (file : FileData) (image : Files) : Type 0 where
-  pub records : List (List ImageData)
-  pub tail : HasTail records image
-  pub gives : Gives pages records file
+-- An image with other records in its tail than these, which name each dirty page, and with which the file of pages
+-- stably gives the pages in doubt. There is one record more, as after an append that failed, or these are the pages
+-- themselves, as after a switch that did: so the number of records tells which pages an image gives.
+pub record InDoubt (dirty : Dirty) (pages doubt : List (List ℕ)) (records : List (List ImageData)) (file : FileData)
+    (image : Files) : Type 0 where
+  pub found : List (List ImageData)
+  pub tail : HasTail found image
+  pub gives : Gives doubt found file
   pub named : (page : ℕ) (d : DirtyPage) → dirty page ≡ Some d
-      → (content : List ℕ) × (last_image page (images_of records) ≡ Some content)
+      → (content : List ℕ) × (last_image page (images_of found) ≡ Some content)
+  pub number : (length found ≡ length records + 1) ⊎ (doubt ≡ pages)
 
 -- The pages are covered by these records, and a crash leaves them in the tail, or others that give the pages in doubt.
 -- So it is at each moment of a call, and between calls once a call of the log has failed: the pages in doubt are those
@@ -54,4 +57,4 @@ pub record Covers (dirty : Dirty) (pages doubt : List (List ℕ)) (records : Lis
     (disk : Disk) : Type 0 where
   pub sized : IsSized disk
   pub covered : IsCovered dirty pages records disk.pages
-  pub tail : EachImage (λ image. HasTail records image ⊎ InDoubt dirty doubt disk.pages image) disk
+  pub tail : EachImage (λ image. HasTail records image ⊎ InDoubt dirty pages doubt records disk.pages image) disk

@@ -7,7 +7,7 @@ use Rattle.ori_log.specs.Logs.{HasTail}
 use Rattle.ori_log.specs.Appending.{StandsIn}
 use Rattle.ori_log.specs.declared.log.Log.{Log}
 use Rattle.ori_cover.specs.Homes.{IsHome, HomesStay, this_page}
-use Rattle.ori_cover.specs.Dirty.{Dirty, unwritten, AreClean, AreInstalled, IsMarked, AreSettled}
+use Rattle.ori_cover.specs.Dirty.{Dirty, unwritten, AreClean, AreInstalled, IsMarked, AreSettled, AreOfTail}
 use Rattle.ori_cover.specs.Given.{ArePut, HoldsPages}
 use Rattle.ori_cover.specs.Cover.{IsSized, IsCovered, InDoubt}
 
@@ -17,6 +17,7 @@ pub record StandsRead (log : Log) (records : List (List ImageData)) (dirty : Dir
   pub sized : IsSized (firm_disk files)
   pub stands : StandsIn log files
   pub holds : IsLog (of_file files log.file) records
+  pub counts : log.tail ≡ length records
   pub place : log.place ≡ length (flat_map record_bytes records)
   pub covered : IsCovered dirty pages records (firm_file files.pages)
 
@@ -26,7 +27,7 @@ pub record CoversRead (dirty : Dirty) (pages doubt : List (List ℕ)) (records :
     (files : Files) : Type 0 where
   pub sized : IsSized (firm_disk files)
   pub covered : IsCovered dirty pages records (firm_file files.pages)
-  pub tail : HasTail records files ⊎ InDoubt dirty doubt (firm_file files.pages) files
+  pub tail : HasTail records files ⊎ InDoubt dirty pages doubt records (firm_file files.pages) files
 
 -- ---- the steps
 
@@ -79,7 +80,7 @@ abbrev pub SyncsHomesRead : {T E : Type 0} → Result T E → Files → Files �
 SyncsHomesRead result old new = (dirty : Dirty) (pages doubt : List (List ℕ)) (records : List (List ImageData))
     → CoversRead dirty pages doubt records old → SyncedHomesRead dirty pages doubt records result old new
 
--- an opening of files that hold these pages
+-- an opening of files that hold these pages, whose dirty pages are then those of the tail
 abbrev pub OpensPagesRead : Log → List ImageData → List (List ImageData) → Files → Files → Type 0
 OpensPagesRead log images records old new = (pages : List (List ℕ)) (dirty now : Dirty) → HoldsPages pages old
-    → AreClean dirty → AreInstalled images dirty now → StandsRead log records now pages new
+    → AreClean dirty → AreInstalled images dirty now → AreOfTail records now × StandsRead log records now pages new

@@ -8,7 +8,7 @@ use Rattle.ori_log.specs.Log.{ImageData}
 use Rattle.ori_log.specs.Opening.{IsFirm}
 use Rattle.ori_log.specs.declared.log.Log.{Log}
 use Rattle.ori_cover.specs.Homes.{IsHome, IsFirmHome, HomesStay, this_page, no_page}
-use Rattle.ori_cover.specs.Dirty.{Dirty, unwritten, AreClean, AreInstalled, IsMarked, AreSettled}
+use Rattle.ori_cover.specs.Dirty.{Dirty, unwritten, AreClean, AreInstalled, IsMarked, AreSettled, AreOfTail}
 use Rattle.ori_cover.specs.Given.{ArePut, HoldsPages}
 use Rattle.ori_cover.specs.Cover.{Stands, Covers}
 
@@ -83,7 +83,7 @@ pub record OpenedPages {E : Type 0} (pages : List (List ℕ)) (result : Result (
   pub making : Run (EachImage (HoldsPages pages)) firmed new
   pub done : IfOk result (λ pair. (records : List (List ImageData))
       × ((dirty now : Dirty) → AreClean dirty → AreInstalled pair.1 dirty now
-      → Stands pair.0 records now pages new.now.disk))
+      → AreOfTail records now × Stands pair.0 records now pages new.now.disk))
 
 abbrev pub OpensPages : {E : Type 0} → Result (Log × List ImageData) E → Story → Story → Type 0
 OpensPages result old new = (pages : List (List ℕ)) → HoldsPages pages (files_of old.now.disk)

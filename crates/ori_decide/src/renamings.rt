@@ -17,7 +17,7 @@ pub type Renaming = (Rid, Rid);
 
 /// The temporary identifiers of a transaction's new records in the order of their creation, each beside the identifier
 /// that it becomes. A contract sees the list of these pairs.
-#[derive(Debug, Drop)]
+#[derive(Drop)]
 pub struct Renamings {
     pairs: Vec<Renaming>,
 }

@@ -1,17 +1,18 @@
 -- What an engine keeps through a commit, and what its state says.
-use Rattle.std.proofs.Common.{◌≡◌, inl, inr, ℕ, ◌+◌, ◌<◌, ◌≤◌, true, List, [], ◌∷◌, length, Option, Some, None}
+use Rattle.std.proofs.Common.{◌≡◌, inl, inr, ℕ, ◌+◌, ◌<◌, ◌≤◌, true, List, [], ◌∷◌, ◌++◌, length, Option, Some, None}
 use Rattle.std.proofs.Common.{option_map, IsSome, refl, sym, ap, ◌∙◌, subst, arith}
 use Rattle.std.specs.Option.{ForSome}
 use Rattle.ori_bytes.specs.declared.causes.Causes.{Causes}
 use Rattle.ori_volume.specs.Causes.{Rose}
-use Rattle.ori_volume.specs.Disk.{Files}
-use Rattle.ori_volume.specs.Story.{Story, Tells}
+use Rattle.ori_volume.specs.Disk.{Disk, Files}
+use Rattle.ori_volume.specs.Story.{Story, Tells, disks, moment_of}
 use Rattle.ori_volume.proofs.Known.{tells_map, tells_then}
 use Rattle.ori_volume.specs.Runs.{EachImage}
 use Rattle.ori_spec_data.specs.Base.{RecordData, BaseData, EntryData}
 use Rattle.ori_spec_data.specs.Views.{are_real}
 use Rattle.ori_spec_data.specs.Keeping.{OpeningData, DecisionData, accepted, halted_at, feed_full, refused}
 use Rattle.ori_spec_data.specs.Keeping.{pages_full, log_full, fault, device, busy, damaged, no_memory, counted}
+use Rattle.ori_spec_crash.proofs.Marks.{moments_added}
 use Rattle.ori_rows.specs.Rows.{records_of, AreAt, base_with}
 use Rattle.ori_rows.specs.Stage.{OpensTo}
 use Rattle.ori_table.specs.Kept.{rows_of}
@@ -68,8 +69,14 @@ whole_first kept base now feed doubt whole =
 
 pub whole_so : (k : Kept) (first now : Option Story) → IsNewlyKept k → Tells (SafeSince (kept_of k)) first now
     → Tells OpensWhole first now
-whole_so k first now newly safe = tells_map _ _ _ _ (λ x y was safe. λ base opens. whole_first (kept_of k) base y
-    (ap entries_of newly.feed) (ap (option_map doubt_of) newly.doubt) (safe base opens).whole) safe
+whole_so k first now newly safe = tells_map _ _ _ _ (λ x y was safe. λ base opens. (
+  later_so x y (safe base opens).crash.added (safe base opens).crash.goes_on,
+  whole_first (kept_of k) base y (ap entries_of newly.feed) (ap (option_map doubt_of) newly.doubt)
+      (safe base opens).whole,
+)) safe
+  where
+    later_so : (x y : Story) (added : List Disk) → disks y ≡ added ++ disks x → moment_of x ≤ moment_of y
+    later_so x y added goes_on = omega (arith, moments_added x y added goes_on)
 
 -- ---- the state
 

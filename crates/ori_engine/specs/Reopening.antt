@@ -1,7 +1,7 @@
 -- What the files of an engine open to again, and what a crash leaves of them now.
-use Rattle.std.specs.Prelude.{◌≡◌, ◌⊎◌, ℕ, ◌+◌, List, length, flat_map, Option, Some, None, IfSome}
+use Rattle.std.specs.Prelude.{◌≡◌, ◌⊎◌, ℕ, ◌+◌, ◌≤◌, List, length, flat_map, Option, Some, None, IfSome}
 use Rattle.ori_volume.specs.Disk.{Files, files_of}
-use Rattle.ori_volume.specs.Story.{Story, Tells}
+use Rattle.ori_volume.specs.Story.{Story, Tells, moment_of}
 use Rattle.ori_volume.specs.Runs.{EachImage}
 use Rattle.ori_spec_data.specs.Base.{RecordData, BaseData, EntryData, asked_in}
 use Rattle.ori_spec_data.specs.Apply.{apply, replay}
@@ -82,10 +82,11 @@ told_now files story = record { files = files; story = story }
 
 -- ---- what a crash leaves now
 
--- over each base that the files opened to at the first story each image that a crash may leave now opens to it
+-- Over each base that the files opened to at the first story: now is no earlier, and each image that a crash may leave
+-- now opens to it.
 abbrev pub OpensWhole : Story → Story → Type 0
 OpensWhole first now = (base : BaseData) → OpensTo (files_of first.now.disk) base
-    → EachImage (λ image. OpensTo image base) now.now.disk
+    → (moment_of first ≤ moment_of now) × EachImage (λ image. OpensTo image base) now.now.disk
 
 -- Over each base that the files opened to at the first story: the state's is that behind the whole feed, to which each
 -- image that a crash may leave now opens, or to that with the entry in doubt.

@@ -4,7 +4,7 @@ ghost use Rattle.std.specs.Prelude.{◌≡◌, IfOk};
 use ori_bytes::{Copied, ListOf, NoMemory, Rid, RidList, Text};
 
 /// Edges out of a vertex, or into it.
-#[derive(Clone, Copy, Debug, PartialEq, Eq)]
+#[derive(Clone, Copy)]
 pub enum Dir {
     /// Out of it: its field's name begins with `out_`.
     Out,

@@ -8,7 +8,7 @@ use ori_bytes::{NoMemory, Rid, Text};
 
 /// The rules that a change may break, in the order in which they are looked for. After OrientDB's manual ("CREATE
 /// PROPERTY").
-#[derive(Clone, Copy, PartialEq, Eq)]
+#[derive(Clone, Copy)]
 pub enum Rule {
     /// The class of a new record isn't there.
     NoClass,
@@ -33,7 +33,7 @@ pub enum Rule {
 }
 
 /// Why a read failed. Nothing has changed but the count of causes.
-#[derive(Clone, Copy, Debug, PartialEq, Eq)]
+#[derive(Clone, Copy)]
 pub enum ReadFault {
     /// A read of the device failed.
     Device,

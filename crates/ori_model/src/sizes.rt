@@ -20,6 +20,12 @@ fn sum(one: u64, other: u64) -> Result<u64, NoMemory>
     one.checked_add(other).ok_or(NoMemory)
 }
 
+fn sum_of_three(one: u64, two: u64, three: u64) -> Result<u64, NoMemory>
+    ensures { IfOk result (λ n. n ≡ one + two + three) }
+{
+    sum(sum(one, two)?, three)
+}
+
 // A count of bytes or items.
 fn count_bytes(count: usize) -> Result<u64, NoMemory>
     ensures { IfOk result (λ n. n ≡ count_size count) }
@@ -67,22 +73,22 @@ fn rids_bytes(rids: &RidList) -> Result<u64, NoMemory>
     Ok(total)
 }
 
-fn linked_bytes(name: &Text, rid: Rid) -> Result<u64, NoMemory>
-    ensures { IfOk result (λ n. n ≡ text_size name.now + link_size rid) }
-{
-    sum(text_bytes(name)?, rid_bytes(rid))
-}
-
 fn links_bytes(links: &RidFieldList) -> Result<u64, NoMemory>
     ensures { IfOk result (λ n. n ≡ count_size (links_count links.now) + links_size links.now) }
 {
     let pairs = links.as_slice();
     let mut total = count_bytes(pairs.len())?;
     for (name, rid) in pairs {
-        let more = linked_bytes(name, *rid)?;
-        total = sum(total, more)?;
+        total = sum_of_three(total, text_bytes(name)?, rid_bytes(*rid))?;
     }
     Ok(total)
+}
+
+// A name, and so many bytes beside it.
+fn named_bytes(name: &Text, beside: u64) -> Result<u64, NoMemory>
+    ensures { IfOk result (λ n. n ≡ text_size name.now + beside) }
+{
+    sum(text_bytes(name)?, beside)
 }
 
 // A value, without its kind's number.
@@ -101,7 +107,7 @@ fn value_bytes(value: &Value) -> Result<u64, NoMemory>
         Value::Binary(bytes) => run_bytes(bytes.len()),
         Value::Embedded(document) => {
             let fields = fields_bytes(&document.fields)?;
-            sum(sum(text_bytes(&document.class)?, fields)?, 1)
+            sum_of_three(text_bytes(&document.class)?, fields, 1)
         }
         Value::EmbeddedList(values) => items_bytes(values),
         Value::EmbeddedMap(fields) => entries_bytes(fields),
@@ -121,8 +127,7 @@ fn items_bytes(values: &ValueList) -> Result<u64, NoMemory>
     let items = values.as_slice();
     let mut total = count_bytes(items.len())?;
     for value in items {
-        let more = sum(1, value_bytes(value)?)?;
-        total = sum(total, more)?;
+        total = sum_of_three(total, 1, value_bytes(value)?)?;
     }
     Ok(total)
 }
@@ -135,9 +140,7 @@ fn entries_bytes(fields: &FieldList) -> Result<u64, NoMemory>
     let pairs = fields.as_slice();
     let mut total = count_bytes(pairs.len())?;
     for (name, value) in pairs {
-        let named = sum(text_bytes(name)?, 1)?;
-        let more = sum(named, value_bytes(value)?)?;
-        total = sum(total, more)?;
+        total = sum_of_three(total, named_bytes(name, 1)?, value_bytes(value)?)?;
     }
     Ok(total)
 }
@@ -150,9 +153,7 @@ fn fields_bytes(fields: &FieldList) -> Result<u64, NoMemory>
     let pairs = fields.as_slice();
     let mut total = 0;
     for (name, value) in pairs {
-        let named = sum(text_bytes(name)?, 5)?;
-        let more = sum(named, value_bytes(value)?)?;
-        total = sum(total, more)?;
+        total = sum_of_three(total, named_bytes(name, 5)?, value_bytes(value)?)?;
     }
     Ok(total)
 }
@@ -161,8 +162,7 @@ fn fields_bytes(fields: &FieldList) -> Result<u64, NoMemory>
 fn sized_bytes(class_len: usize, fields: &FieldList) -> Result<u64, NoMemory>
     ensures { IfOk result (λ n. n ≡ 6 + (count_size class_len + class_len) + fields_size fields.now) }
 {
-    let head = sum(6, run_bytes(class_len)?)?;
-    sum(head, fields_bytes(fields)?)
+    sum_of_three(6, run_bytes(class_len)?, fields_bytes(fields)?)
 }
 
 /// How many bytes a record of this class with these fields takes. There is no memory for one of more bytes than a `u64`

@@ -10,6 +10,7 @@ use Rattle.ori_cover.specs.Dirty.{Dirty, DirtyPage, AreSettled, AreClean, settle
 use Rattle.ori_cover.specs.Views.{View}
 use Rattle.ori_cover.proofs.Views.{Laws, HomesSync, LogSwitches}
 use Rattle.ori_pool.specs.declared.fault.DeviceFault.{DeviceFault}
+use Rattle.ori_pool.specs.declared.fault.DeviceFault.TheVariants.{Fault}
 use Rattle.ori_pool.specs.Devices.{OnLog, Switches, Halts}
 use Rattle.ori_pool.specs.Finishes.{AreWritten, FinishesOn, Finishes, Checkpoints}
 use Rattle.ori_pool.specs.Sends.{Sends}
@@ -150,3 +151,8 @@ pub halted_then : (T : Type 0) (faults : ℕ) (old new : Option ℕ) (why : Devi
     → Halts {T = T} faults old new (Err why) → new ≡ None → ⊥
 halted_then T faults None new why none halts is = let e : new ≡ Some faults = halts.0 in cc
 halted_then T faults (Some at) new why none halts is = cc
+
+pub fault_is : (T : Type 0) (faults : ℕ) (old new : Option ℕ) (why : DeviceFault) → old ≡ None
+    → Halts {T = T} faults old new (Err why) → why ≡ Fault
+fault_is T faults None new why none halts = halts.1
+fault_is T faults (Some at) new why none halts = cc

@@ -1,5 +1,5 @@
 -- What a commit does, from what its steps do, in either view of the volume.
-use Rattle.std.proofs.Common.{◌≡◌, inl, inr, ⊎_elim, ℕ, ◌+◌, Bool, true, false, cond, List, []}
+use Rattle.std.proofs.Common.{◌≡◌, ℕ, ◌+◌, Bool, true, false, cond, List, []}
 use Rattle.std.proofs.Common.{Option, Some, None, Result, Ok, Err, IsSome, IfSome, refl, sym, ap, subst, ◌∙◌}
 use Rattle.ori_volume.specs.Story.{Tells}
 use Rattle.ori_volume.proofs.Known.{tells_map, tells_then, tells_same, some_then}
@@ -9,9 +9,13 @@ use Rattle.ori_part.specs.Parts.{PartData}
 use Rattle.ori_cover.specs.Dirty.{Dirty, AreInstalled}
 use Rattle.ori_cover.specs.Views.{View}
 use Rattle.ori_cover.proofs.Views.{Laws, RecordPuts}
-use Rattle.ori_pool.specs.Devices.{OnLog, Puts, is_due, kept_tail}
+use Rattle.ori_pool.specs.declared.fault.OpFault.{OpFault}
+use Rattle.ori_pool.specs.declared.fault.OpFault.TheVariants.{Fault, NoMemory}
+use Rattle.ori_pool.specs.declared.fault.TendFault.{TendFault}
+use Rattle.ori_pool.specs.declared.fault.TendFault.TheVariants as tend
+use Rattle.ori_pool.specs.Devices.{OnLog, Puts, is_due, kept_tail, op_of}
 use Rattle.ori_pool.specs.Finishes.{Checkpoints}
-use Rattle.ori_pool.specs.Commits.{Commits, MakesRoom, LeavesRoom, left_in}
+use Rattle.ori_pool.specs.Commits.{Commits, MakesRoom, LeavesRoom, left_in, doubt_of, records_after}
 use Rattle.ori_pool.specs.Held.{dirty_with}
 
 pub on_map : (P Q : Log → Log → Type 0) → ((l m : Log) → P l m → Q l m) → (a b : Option Log) → OnLog P a b → OnLog Q a b
@@ -84,12 +88,12 @@ module _ {S : Type 0} (view : View S) (laws : Laws view) where
 
   module _ (images : List ImageData) (old_log mid_log new_log : Option Log)
       (old_hand mid_hand new_hand : List (Option PartData)) (mid_halted halted : Option ℕ) (a b c : Option S) where
-    pub commits_done : (T E F G : Type 0) (value moment : T)
+    pub commits_done : (T E G : Type 0) (value moment : T)
         → ((others : Dirty) → AreInstalled images (dirty_with others mid_hand) (dirty_with others new_hand))
         → Tells (MakesRoom {T = Unit {0}} {E = G} view old_log mid_log old_hand mid_hand mid_halted (Ok tt)) a b
         → Tells (Puts {T = T} {E = E} (RecordPuts view) mid_log new_log images (Ok value)) b c
-        → Tells (Commits {T = T} {E = F} view old_log new_log old_hand new_hand images halted (Ok moment)) a c
-    commits_done T E F G value moment installed first second =
+        → Tells (Commits {T = T} view old_log new_log old_hand new_hand images halted (Ok moment)) a c
+    commits_done T E G value moment installed first second =
         tells_then _ _ _ a b c
         (λ x y z rooms puts others. on_then _ _ _
         (λ l m n room p pages put records stands are_put.
@@ -103,16 +107,19 @@ module _ {S : Type 0} (view : View S) (laws : Laws view) where
         }) old_log mid_log new_log (rooms others) puts)
         first second
 
-    pub commits_unput : (T E F G : Type 0) (why : E) (refusal : F) → (halted ≡ None → ⊥) → new_hand ≡ mid_hand
+    pub commits_unput : (T E G : Type 0) (why : E) (refusal : OpFault) (doubt : ℕ) → refusal ≡ Fault (Some doubt)
+        → (halted ≡ None → ⊥) → new_hand ≡ mid_hand
         → Tells (MakesRoom {T = Unit {0}} {E = G} view old_log mid_log old_hand mid_hand mid_halted (Ok tt)) a b
         → Tells (Puts {T = T} {E = E} (RecordPuts view) mid_log new_log images (Err why)) b c
-        → Tells (Commits {T = T} {E = F} view old_log new_log old_hand new_hand images halted (Err refusal)) a c
-    commits_unput T E F G why refusal halts same first second =
-        subst (λ hand. Tells (Commits {T = T} {E = F} view old_log new_log old_hand hand images halted (Err refusal)) a
-        c)
+        → Tells (Commits {T = T} view old_log new_log old_hand new_hand images halted (Err refusal)) a c
+    commits_unput T E G why refusal doubt is halts same first second =
+        subst (λ (r : OpFault). Tells (Commits {T = T} view old_log new_log old_hand new_hand images halted (Err r)) a
+        c) (sym is)
+        (subst (λ hand. Tells (Commits {T = T} view old_log new_log old_hand hand images halted
+        (Err (Fault (Some doubt)))) a c)
         (sym same)
         (tells_then _ (Puts (RecordPuts view) mid_log new_log images (Err why))
-        (Commits view old_log new_log old_hand mid_hand images halted (Err refusal)) a b c
+        (Commits view old_log new_log old_hand mid_hand images halted (Err (Fault (Some doubt)))) a b c
         (λ x y z rooms puts others. on_then _ _ _
         (λ l m n room p pages put records stands are_put.
         let r = room pages records stands in
@@ -120,32 +127,50 @@ module _ {S : Type 0} (view : View S) (laws : Laws view) where
         record {
           moments = laws.either_then pages put x y z (laws.either_of pages put x y r.moments) w.moments;
           done = tt;
-          failed = (left_in l records, inr w.failed);
+          failed = w.failed;
           unhalted = λ none. absurd (halts none);
         }) old_log mid_log new_log (rooms others) puts)
-        first second)
+        first second))
 
-  pub commits_unmade : (T F G : Type 0) (images : List ImageData) (old_log new_log : Option Log)
-      (old_hand new_hand : List (Option PartData)) (halted : Option ℕ) (why : G) (refusal : F) (a b : Option S)
-      → Tells (MakesRoom {T = Unit {0}} {E = G} view old_log new_log old_hand new_hand halted (Err why)) a b
-      → Tells (Commits {T = T} {E = F} view old_log new_log old_hand new_hand images halted (Err refusal)) a b
-  commits_unmade T F G images old_log new_log old_hand new_hand halted why refusal a b told =
-      tells_map _ _ a b
+  -- a checkpoint leaves nothing in doubt
+  module _ (pages put : List (List ℕ)) (left records : List (List ImageData)) (now : Dirty) (x : S) where
+    unmade_covers : (why : TendFault) → view.covers now pages pages records x
+        → view.covers now pages (doubt_of (op_of why) pages put) (records_after (op_of why) left records) x
+    unmade_covers tend.Fault covers = covers
+    unmade_covers (tend.Halted at_fault) covers = covers
+    unmade_covers (tend.Busy turn) covers = covers
+
+    unmade_either : (y : S) (why : TendFault) → view.either pages pages x y
+        → view.either pages (doubt_of (op_of why) pages put) x y
+    unmade_either y tend.Fault either = either
+    unmade_either y (tend.Halted at_fault) either = either
+    unmade_either y (tend.Busy turn) either = either
+
+  pub commits_unmade : (T : Type 0) (images : List ImageData) (old_log new_log : Option Log)
+      (old_hand new_hand : List (Option PartData)) (halted : Option ℕ) (why : TendFault) (refusal : OpFault)
+      (a b : Option S) → refusal ≡ op_of why
+      → Tells (MakesRoom {T = Unit {0}} {E = TendFault} view old_log new_log old_hand new_hand halted (Err why)) a b
+      → Tells (Commits {T = T} view old_log new_log old_hand new_hand images halted (Err refusal)) a b
+  commits_unmade T images old_log new_log old_hand new_hand halted why refusal a b is told =
+      subst (λ (r : OpFault). Tells (Commits {T = T} view old_log new_log old_hand new_hand images halted (Err r)) a b)
+      (sym is)
+      (tells_map _ _ a b
       (λ x y known rooms others. on_map _ _
       (λ l m room pages put records stands are_put.
       let r = room pages records stands in
       record {
-        moments = laws.either_of pages put x y r.moments;
+        moments = unmade_either pages put (left_in l records) records (dirty_with others new_hand) x y why
+            (laws.either_of pages pages x y r.moments);
         done = tt;
-        failed = (records, inl r.failed);
-        unhalted = λ none. (records, r.unhalted none);
+        failed = unmade_covers pages put (left_in l records) records (dirty_with others new_hand) y why r.failed;
+        unhalted = r.unhalted;
       }) old_log new_log (rooms others))
-      told
+      told)
 
   -- ---- places that were made first
 
-  pub commits_reserved : {T F : Type 0} (images : List ImageData) (old_log new_log : Option Log)
-      (old_hand mid_hand new_hand : List (Option PartData)) (halted : Option ℕ) (result : Result T F)
+  pub commits_reserved : {T : Type 0} (images : List ImageData) (old_log new_log : Option Log)
+      (old_hand mid_hand new_hand : List (Option PartData)) (halted : Option ℕ) (result : Result T OpFault)
       (a b : Option S)
       → ((others : Dirty) (q : ℕ) → dirty_with others mid_hand q ≡ dirty_with others old_hand q)
       → Tells (Commits view old_log new_log mid_hand new_hand images halted result) a b
@@ -158,32 +183,32 @@ module _ {S : Type 0} (view : View S) (laws : Laws view) where
       stands) are_put) old_log new_log (commits others))
       told
 
-  pub commits_none : (T F : Type 0) (images : List ImageData) (old_log new_log : Option Log)
-      (old_hand new_hand : List (Option PartData)) (halted : Option ℕ) (refusal : F) (a b : Option S)
+  pub commits_none : (T : Type 0) (images : List ImageData) (old_log new_log : Option Log)
+      (old_hand new_hand : List (Option PartData)) (halted : Option ℕ) (a b : Option S)
       → IsSome old_log → new_log ≡ old_log → b ≡ a
       → ((others : Dirty) (q : ℕ) → dirty_with others new_hand q ≡ dirty_with others old_hand q)
-      → Tells (Commits {T = T} {E = F} view old_log new_log old_hand new_hand images halted (Err refusal)) a b
-  commits_none T F images old_log new_log old_hand new_hand halted refusal a b some same unmoved kept =
+      → Tells (Commits {T = T} view old_log new_log old_hand new_hand images halted (Err NoMemory)) a b
+  commits_none T images old_log new_log old_hand new_hand halted a b some same unmoved kept =
       tells_same _ a b
       (λ x others. on_same _ old_log new_log some same
       (λ l pages put records stands are_put.
       let stood = laws.stands_same l records (dirty_with others old_hand) (dirty_with others new_hand) pages x
       (kept others) stands in
       record {
-        moments = laws.either_of pages put x x (laws.holds_at pages x);
+        moments = laws.either_of pages pages x x (laws.holds_at pages x);
         done = tt;
-        failed = (records, inl (laws.covers_of l records (dirty_with others new_hand) pages pages x stood));
-        unhalted = λ none. (records, stood);
+        failed = laws.covers_of l records (dirty_with others new_hand) pages pages x stood;
+        unhalted = λ none. stood;
       })) unmoved
 
   -- ---- places that are dropped
 
-  pub commits_trimmed : (T F : Type 0) (images : List ImageData) (old_log new_log : Option Log)
-      (old_hand mid_hand new_hand : List (Option PartData)) (halted : Option ℕ) (why : F) (a b : Option S)
+  pub commits_trimmed : (T : Type 0) (images : List ImageData) (old_log new_log : Option Log)
+      (old_hand mid_hand new_hand : List (Option PartData)) (halted : Option ℕ) (why : OpFault) (a b : Option S)
       → ((others : Dirty) (q : ℕ) → dirty_with others new_hand q ≡ dirty_with others mid_hand q)
-      → Tells (Commits {T = T} {E = F} view old_log new_log old_hand mid_hand images halted (Err why)) a b
-      → Tells (Commits {T = T} {E = F} view old_log new_log old_hand new_hand images halted (Err why)) a b
-  commits_trimmed T F images old_log new_log old_hand mid_hand new_hand halted why a b same told =
+      → Tells (Commits {T = T} view old_log new_log old_hand mid_hand images halted (Err why)) a b
+      → Tells (Commits {T = T} view old_log new_log old_hand new_hand images halted (Err why)) a b
+  commits_trimmed T images old_log new_log old_hand mid_hand new_hand halted why a b same told =
       tells_map _ _ a b
       (λ x y known commits others. on_map _ _
       (λ l m c pages put records stands are_put.
@@ -193,16 +218,9 @@ module _ {S : Type 0} (view : View S) (laws : Laws view) where
       record {
         moments = e.moments;
         done = tt;
-        failed = (
-          e.failed.0,
-          ⊎_elim
-              (λ (one : view.covers was pages pages e.failed.0 y). inl
-              (laws.covers_same e.failed.0 was now pages pages y (same others) one))
-              (λ (two : view.covers was pages put e.failed.0 y). inr
-              (laws.covers_same e.failed.0 was now pages put y (same others) two)) e.failed.1,
-        );
-        unhalted = λ none.
-            let u = e.unhalted none in (u.0, laws.stands_same m u.0 was now pages y (same others) u.1);
+        failed = laws.covers_same (records_after why (left_in l records) records) was now pages
+            (doubt_of why pages put) y (same others) e.failed;
+        unhalted = λ none. laws.stands_same m records was now pages y (same others) (e.unhalted none);
       }) old_log new_log (commits others))
       told
 

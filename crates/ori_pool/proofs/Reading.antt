@@ -1,20 +1,21 @@
 -- A home that is read, and what a call reads that changes no byte.
 use Rattle.std.proofs.Common.{◌≡◌, ℕ, ◌*◌, List, ◌++◌, length, take, drop, Option, Some, None, IfSome, refl, ap, ◌∙◌}
-use Rattle.std.proofs.Common.{arith}
+use Rattle.std.proofs.Common.{arith, max}
 use Rattle.std.proofs.lemmas.List.{take_at}
 use Rattle.ori_bytes.specs.declared.limits.TheConstants.{PAGE_BYTES}
 use Rattle.ori_volume.specs.Disk.{Files}
 use Rattle.ori_volume.specs.Effects.{read_bytes}
 use Rattle.ori_volume.specs.Story.{Tells}
 use Rattle.ori_volume.proofs.Known.{some_map, some_told}
-use Rattle.ori_log.specs.Log.{ImageData}
+use Rattle.ori_log.specs.Log.{ImageData, pages_named, pages_at_home}
 use Rattle.ori_log.specs.Appending.{StandsIn}
 use Rattle.ori_log.specs.Attaching.{IsKeptOrMade, AttachesTo}
 use Rattle.ori_log.specs.declared.log.Log.{Log}
+use Rattle.ori_cover.specs.Given.{HoldsPages}
 use Rattle.ori_cover.specs.Homes.{IsHome}
 use Rattle.ori_cover.specs.Reading.{OpensPagesRead}
 use Rattle.ori_cover.proofs.Homes.{home_read}
-use Rattle.ori_cover.proofs.Opening.{opens_pages_read}
+use Rattle.ori_cover.proofs.Opening.{opens_pages_read, attached_pages}
 
 -- a page whose bytes were all written over
 pub home_told : (told : Option Files) (page : ℕ) (blank lent new : List ℕ) → lent ≡ blank → length lent ≡ PAGE_BYTES
@@ -49,3 +50,11 @@ opened_read log images (Some old) b attaches stands kept = (
         (some_told (λ fs. StandsIn log fs) b kept.0 kept.1 stands),
   ),
 )
+
+-- and how many pages it found
+pub opened_pages : (log : Log) (images : List ImageData) (a : Option Files)
+    → IfSome a (λ fs. (records : List (List ImageData)) × AttachesTo fs records log images)
+    → IfSome a (λ fs. (pages : List (List ℕ)) × HoldsPages pages fs
+    × (length pages ≡ max (pages_named images) (pages_at_home fs.pages)))
+opened_pages log images None attaches = tt
+opened_pages log images (Some fs) attaches = attached_pages fs attaches.0 log images attaches.1

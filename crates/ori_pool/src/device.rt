@@ -1,6 +1,6 @@
 // The device: a volume and its log.
 ghost use Rattle.std.specs.Prelude.{◌≡◌, ◌+◌, ◌*◌, ◌<◌, ◌≤◌, ℕ, length, None, Ok, Err, IsSome, IfSome, IfOk, OnOk};
-ghost use Rattle.std.specs.Prelude.{◌⊎◌, List, OnErr, IfErr, IsErrOf};
+ghost use Rattle.std.specs.Prelude.{◌⊎◌, List, max, false, OnErr, IfErr, IsErrOf};
 ghost use Rattle.ori_bytes.specs.declared.limits.TheConstants.{MAX_LOG_BYTES, MAX_PAGES, MAX_WEIGHT, PAGE_BYTES};
 
 use crate::DeviceFault;
@@ -28,12 +28,13 @@ impl<V: Volume> Device<V> {
     ghost use Rattle.ori_volume.specs.Story.{Tells, FilesWrite};
     ghost use Rattle.ori_log.specs.Images.{AreRising};
     ghost use Rattle.ori_log.specs.Forms.{BreaksFirst};
-    ghost use Rattle.ori_log.specs.Log.{pages_at_home};
+    ghost use Rattle.ori_log.specs.Log.{pages_at_home, pages_named};
     ghost use Rattle.ori_log.specs.Appending.{need_of, room_of, FailsAs};
     ghost use Rattle.ori_log.specs.Attaching.{IsKeptOrMade};
     ghost use Rattle.ori_log.specs.declared.fault.LogFault.{LogFault};
     ghost use Rattle.ori_volume.specs.OnlyRead.{IsOnlyRead};
     ghost use Rattle.ori_page.specs.declared.fault.PageFault.{PageFault};
+    ghost use Rattle.ori_cover.specs.Given.{HoldsPages};
     ghost use Rattle.ori_cover.specs.Homes.{IsHome};
     ghost use Rattle.ori_cover.specs.Reading.{WritesHomeRead, SyncsHomesRead, PutsRecordRead, SwitchesLogRead};
     ghost use Rattle.ori_cover.specs.Steps.{WritesHome, SyncsHomes, PutsRecord, SwitchesLog};
@@ -63,14 +64,16 @@ impl<V: Volume> Device<V> {
 
     /// Attaches the log, and lists the last image of each page in its tail, pages rising: these are the dirty pages
     /// then, and a hand is to install them into partitions without a page. A device that has a log, halted or not, gets
-    /// it anew, and isn't halted after it. Refused as [`Log::attach`] is: the device then has the log that it had, and
-    /// is halted where it was.
+    /// it anew, and isn't halted after it. Each page of the files has an image or a byte at home. Refused as
+    /// [`Log::attach`] is: the device then has the log that it had, and is halted where it was.
     pub fn open(&mut self, alloc: Global) -> Result<ImageList, LogFault>
         ensures crash { Tells (Opens result self.new.log) (V.story self.old.volume) (V.story self.new.volume) }
         ensures read { OnOk result (Tells (OpensRead result self.new.log) (V.files self.old.volume)
             (V.files self.new.volume)) }
         ensures open { OnOk result (IsSome self.new.log) }
         ensures rising { IfOk result (λ images. AreRising 0 images) }
+        ensures holds { IfOk result (λ images. IfSome (V.files self.old.volume) (λ fs. (pages : List (List ℕ))
+            × HoldsPages pages fs × (length pages ≡ max (pages_named images) (pages_at_home fs.pages)))) }
         ensures files { OnOk result (Tells IsKeptOrMade (V.files self.old.volume) (V.files self.new.volume)) }
         ensures refused { (file : FileNo) → IsErrOf result (LogFault.NotALog file)
             → V.files self.new.volume ≡ V.files self.old.volume }
@@ -96,6 +99,20 @@ impl<V: Volume> Device<V> {
         self.volume.moment()
     }
 
+    /// How many calls of the volume failed.
+    pub fn faults(&self) -> u64
+        ensures { result ≡ V.faults self.now.volume }
+    {
+        self.volume.faults()
+    }
+
+    /// How many writes, cuts and syncs of the log files and of the master failed.
+    pub fn log_faults(&self) -> u64
+        ensures { result ≡ V.log_faults self.now.volume }
+    {
+        self.volume.log_faults()
+    }
+
     /// How many pages have a byte at home. `Failed` halts nothing.
     pub fn pages_at_home(&mut self) -> Result<u64, Failed>
         ensures value { IfOk result (λ count. IfSome (V.files self.old.volume)
@@ -108,9 +125,22 @@ impl<V: Volume> Device<V> {
         Ok(length.div_ceil(PAGE_BYTES as u64))
     }
 
+    /// How many homes lie whole in the file of pages. `Failed` halts nothing.
+    pub fn whole_homes(&mut self) -> Result<u64, Failed>
+        ensures value { IfOk result (λ count. IfSome (V.files self.old.volume)
+            (λ fs. (PAGE_BYTES * count ≤ length fs.pages) × (length fs.pages < PAGE_BYTES * (count + 1)))) }
+        ensures read { IsOnlyRead V.files V.story V.moment V.log_faults self.old.volume self.new.volume }
+        ensures same { (self.new.log ≡ self.old.log) × (self.new.halted ≡ self.old.halted) }
+        ensures faults { HasCause (V.faults self.old.volume) (V.faults self.new.volume) result }
+    {
+        let length = self.volume.len(FileNo::Pages)?;
+        Ok(length / PAGE_BYTES as u64)
+    }
+
     /// The number of records in the log, or 0 where there is none.
     pub fn tail(&self) -> u64
         ensures value { IfSome self.now.log (λ log. result ≡ log.tail) }
+        ensures none { self.now.log ≡ None → result ≡ 0 }
         ensures few { result < MAX_LOG_BYTES }
     {
         match &self.log {
@@ -120,9 +150,10 @@ impl<V: Volume> Device<V> {
     }
 
     /// Whether the log holds [`CHECKPOINT_BYTES`] or more, so that a commit makes a checkpoint first. Where it holds
-    /// fewer, the record of any operation has room.
+    /// fewer, the record of any operation has room. Not where there is no log.
     pub fn is_due(&self) -> bool
-        ensures { IfSome self.now.log (λ log. result ≡ is_due log) }
+        ensures value { IfSome self.now.log (λ log. result ≡ is_due log) }
+        ensures none { self.now.log ≡ None → result ≡ false }
     {
         match &self.log {
             Some(log) => log.room() <= MAX_LOG_BYTES - CHECKPOINT_BYTES,

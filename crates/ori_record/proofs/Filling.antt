@@ -17,7 +17,8 @@ use Rattle.ori_record.specs.declared.fault.RecordFault.TheVariants.{NotRecord, T
 use Rattle.std.specs.Str.{IsUtf8}
 use Rattle.std.proofs.lemmas.Str.{IsUtf8-append}
 use Rattle.ori_record.specs.Spelling.{IsCount, IsCounted, IsText, IsValue, IsHeaded, AreFields, OwnField, plain, bagged}
-use Rattle.ori_record.specs.Spelling.{own_name, own_number, own_pointer, IsOwnValue, AreOwnFields, bag_name, plain_among}
+use Rattle.ori_record.specs.Spelling.{own_name, own_number, own_pointer, IsOwnValue, AreOwnFields, bag_name}
+use Rattle.ori_record.specs.Spelling.{plain_among}
 use Rattle.ori_record.specs.Spelling.{bags_among}
 use Rattle.ori_record.specs.Writable.{HavePlaces, OwnHavePlaces, AreNoBags, AreFit}
 use Rattle.ori_record.specs.Writable.{merged, first_place, header_size, bag_size, own_header_size}
@@ -30,7 +31,8 @@ use Rattle.ori_record.specs.Writing.{Adds, Makes, Puts, IsEntry, AreHoles, HasHo
 use Rattle.ori_record.specs.Writing.{IsReady, AreReady, AreNamed, own_nesting, own_nestings}
 use Rattle.ori_model.specs.declared.bags.Dir.{Dir}
 use Rattle.ori_model.specs.declared.bags.Dir.TheVariants.{Out, Into}
-use Rattle.ori_record.proofs.Merging.{merged_plain, merged_bags, merged_ordered, plain_nesting, plain_nestings, plain_headers}
+use Rattle.ori_record.proofs.Merging.{merged_plain, merged_bags, merged_ordered, plain_nesting, plain_nestings}
+use Rattle.ori_record.proofs.Merging.{plain_headers}
 use Rattle.ori_record.proofs.Merging.{plain_places}
 use Rattle.ori_record.proofs.Putting.{Grown, grown_more, grown_last}
 use Rattle.ori_record.proofs.Parts.{puts_as}

@@ -84,6 +84,19 @@ four_bytes a b c d h i j k (suc (suc zero)) = j
 four_bytes a b c d h i j k (suc (suc (suc zero))) = k
 four_bytes a b c d h i j k (suc (suc (suc (suc n)))) = omega arith
 
+four_whole : (bytes one two three more : List ℕ) (a b c d : ℕ) → (bytes ≡ a ∷ one) × (a < 256)
+    → (one ≡ b ∷ two) × (b < 256) → (two ≡ c ∷ three) × (c < 256) → (three ≡ d ∷ more) × (d < 256)
+    → (bytes ≡ to_be_bytes w32 (from_be_bytes w32 (a ∷ b ∷ c ∷ d ∷ [])) ++ more)
+    × (from_be_bytes w32 (a ∷ b ∷ c ∷ d ∷ []) < 2 ^ 32)
+four_whole bytes one two three more a b c d x y z w =
+    let four : List ℕ = a ∷ b ∷ c ∷ d ∷ [] in
+    let back : to_be_bytes w32 (from_be_bytes w32 four) ≡ four
+    = be_bytes_4 four (from_be_bytes w32 four) refl (four_bytes a b c d x.1 y.1 z.1 w.1) refl in
+    let whole : bytes ≡ four ++ more
+    = x.0 ∙ ap (λ (l : List ℕ). a ∷ l) (y.0 ∙ ap (λ (l : List ℕ). b ∷ l) (z.0 ∙ ap (λ (l : List ℕ). c ∷ l) w.0)) in
+    let below : from_be_bytes w32 four < 2 ^ 32 = omega (arith, x.1, y.1, z.1, w.1) in
+    (whole ∙ ap (λ (l : List ℕ). l ++ more) (sym back), below)
+
 pub u32_taken : (bytes : List ℕ) (n : ℕ) (more : List ℕ) → u32_at bytes ≡ Some (n, more)
     → (bytes ≡ to_be_bytes w32 n ++ more) × (n < 2 ^ 32)
 unfolding u32_at
@@ -100,20 +113,10 @@ u32_taken bytes n more e =
     let s = bind_some (octet_at c.1) (λ d.
     Some (from_be_bytes w32 (a.0 ∷ b.0 ∷ c.0 ∷ d.0 ∷ []), d.1)) (n, more) r.2 in
     let d = s.0 in
-    let x = octet_taken bytes a.0 a.1 p.1 in
-    let y = octet_taken a.1 b.0 b.1 q.1 in
-    let z = octet_taken b.1 c.0 c.1 r.1 in
-    let w = octet_taken c.1 d.0 d.1 s.1 in
-    let four = a.0 ∷ b.0 ∷ c.0 ∷ d.0 ∷ [] in
-    let is = some_is (from_be_bytes w32 four, d.1) (n, more) s.2 in
-    let back : to_be_bytes w32 (from_be_bytes w32 four) ≡ four
-    = be_bytes_4 four (from_be_bytes w32 four) refl (four_bytes a.0 b.0 c.0 d.0 x.1 y.1 z.1 w.1) refl in
-    let whole : bytes ≡ four ++ d.1
-    = x.0 ∙ ap (λ (l : List ℕ). a.0 ∷ l) (y.0 ∙ ap (λ (l : List ℕ). b.0 ∷ l)
-    (z.0 ∙ ap (λ (l : List ℕ). c.0 ∷ l) w.0)) in
-    let below : from_be_bytes w32 four < 2 ^ 32 = omega (arith, x.1, y.1, z.1, w.1) in
+    let is = some_is (from_be_bytes w32 (a.0 ∷ b.0 ∷ c.0 ∷ d.0 ∷ []), d.1) (n, more) s.2 in
     subst (λ (v : ℕ × List ℕ). (bytes ≡ to_be_bytes w32 v.0 ++ v.1) × (v.0 < 2 ^ 32)) is
-    (whole ∙ ap (λ (l : List ℕ). l ++ d.1) (sym back), below)
+    (four_whole bytes a.1 b.1 c.1 d.1 a.0 b.0 c.0 d.0 (octet_taken bytes a.0 a.1 p.1) (octet_taken a.1 b.0 b.1 q.1)
+    (octet_taken b.1 c.0 c.1 r.1) (octet_taken c.1 d.0 d.1 s.1))
 
 zigzag_signed : (z : ℤ) → zigzag_of z < 2 ^ 64 → IsSigned 64 z
 zigzag_signed (pos n) h = (omega (arith, ints), omega (arith, ints))

@@ -6,3 +6,11 @@ mod Lines
 mod Runs
 mod Ends
 mod Outcomes
+mod Reopened
+mod Openings
+mod Stepping
+mod Behind
+mod Going
+mod Loops
+mod Rooms
+mod Nexts

@@ -3,16 +3,13 @@ use Rattle.std.specs.Prelude.{Any, get_or}
 use Rattle.std.proofs.Common.{◌≡◌, ◌⊎◌, ℕ, zero, suc, ◌+◌, ◌<◌, Bool, List, [], ◌∷◌, ◌++◌, length, Option, refl, sym}
 use Rattle.std.proofs.Common.{ap, ◌∙◌, append_assoc, inl, inr, arith, subst, IsTrue}
 use Rattle.std.proofs.lemmas.List.{append-nil, length-append, nil_from_length}
-use Rattle.ori_volume.specs.Disk.{Files}
-use Rattle.ori_volume.specs.Streams.{Took}
 use Rattle.ori_volume.proofs.Pieces.{took_more}
 use Rattle.ori_spec_texts.specs.Line.{LineData, StopData, at_end, Reads}
 use Rattle.ori_spec_texts.specs.Reply.{AnswerData, answer_text, answers_text}
 use Rattle.ori_spec_runs.specs.Run.{RunData, Step, Run}
 use Rattle.ori_text.specs.Lines.{Reading, joined, AreWhole, HasLast}
 use Rattle.ori_text.specs.LineReading.{IsAtEnd, Moves}
-use Rattle.ori_script.specs.Keeping.{KeptData}
-use Rattle.ori_script.specs.Script.{GoesOn}
+use Rattle.ori_script.specs.Script.{HasRead}
 use Rattle.ori_text.proofs.Splitting.{joined-append, AreWhole-append}
 use Rattle.ori_text.proofs.Reading.{Reads-then, no_long}
 
@@ -53,18 +50,6 @@ no_lines : (lines : List (List ℕ)) (ended : Bool) (held : List ℕ) → AreWho
 no_lines [] ended held w e = refl
 no_lines (line ∷ lines) ended held w e = absurd (omega (arith, some_joined line lines ended held w))
 
--- how far the input was read
-pub record Moved (left_old left_new : Option (List ℕ)) (reading : Reading) (said : List LineData) (stop : StopData) :
-    Type 0 where
-  pub input : List ℕ
-  pub took : Took left_old left_new input
-  pub source_end : IsTrue reading.ended → IsAtEnd left_new
-  pub lines : List (List ℕ)
-  pub parts : input ≡ joined lines ++ reading.held
-  pub given : reading.given ≡ length (joined lines)
-  pub whole : AreWhole lines ⊎ HasLast reading.ended lines reading.held
-  pub reads : Reads 0 lines said stop
-
 last_after : (lines : List (List ℕ)) (ended : Bool) (more : List (List ℕ)) (held : List ℕ) → AreWhole lines
     → HasLast ended more held → HasLast ended (lines ++ more) held
 last_after lines ended more held w h = record {
@@ -79,11 +64,10 @@ last_after lines ended more held w h = record {
 }
 
 -- further lines behind whole ones
-moved_behind : (files : Option Files) (l0 l1 l2 t0 t1 : Option (List ℕ)) (old new : Reading) (kept : KeptData)
-    (said : List LineData) (stop : StopData)
-    (g : GoesOn files l0 l1 t0 t1 old kept) → AreWhole g.lines → (m : Moves l1 l2 old new said stop)
-    → (IsTrue new.ended → IsAtEnd l2) → Moved l0 l2 new (g.said ++ said) stop
-moved_behind files l0 l1 l2 t0 t1 old new kept said stop g w m over =
+moved_behind : (l0 l1 l2 : Option (List ℕ)) (old new : Reading) (before said : List LineData)
+    (stop : StopData) (g : HasRead l0 l1 old before at_end) → AreWhole g.lines → (m : Moves l1 l2 old new said stop)
+    → (IsTrue new.ended → IsAtEnd l2) → HasRead l0 l2 new (before ++ said) stop
+moved_behind l0 l1 l2 old new before said stop g w m over =
     let a = m.advances in
     let all : joined (g.lines ++ m.lines) ≡ joined g.lines ++ joined m.lines = joined-append g.lines m.lines in
     record {
@@ -100,27 +84,27 @@ moved_behind files l0 l1 l2 t0 t1 old new kept said stop g w m over =
         | inl more ↦ inl (AreWhole-append g.lines m.lines w more)
         | inr h ↦ inr (last_after g.lines new.ended m.lines new.held w h)
       ];
-      reads = Reads-then 0 g.lines m.lines g.said said stop g.reads
+      reads = Reads-then 0 g.lines m.lines before said stop g.reads
           (subst (λ (n : ℕ). Reads n m.lines said stop) (omega (arith, g.given)) a.reads);
     }
 
-ended_before : (files : Option Files) (l0 l1 t0 t1 : Option (List ℕ)) (old : Reading) (kept : KeptData)
-    (g : GoesOn files l0 l1 t0 t1 old kept) → HasLast old.ended g.lines old.held → IsTrue old.ended
-ended_before files l0 l1 t0 t1 old kept g h =
+ended_before : (l0 l1 : Option (List ℕ)) (old : Reading) (before : List LineData)
+    (g : HasRead l0 l1 old before at_end) → HasLast old.ended g.lines old.held → IsTrue old.ended
+ended_before l0 l1 old before g h =
     elim h.why [
       | inl ended ↦ ended
-      | inr long ↦ absurd (no_long 0 h.front h.last g.said
-          (subst (λ (ls : List (List ℕ)). Reads 0 ls g.said at_end) h.parts g.reads) long)
+      | inr long ↦ absurd (no_long 0 h.front h.last before
+          (subst (λ (ls : List (List ℕ)). Reads 0 ls before at_end) h.parts g.reads) long)
     ]
 
 -- behind a last line without an end nothing comes
-moved_over : (files : Option Files) (l0 l1 l2 t0 t1 : Option (List ℕ)) (old new : Reading) (kept : KeptData)
-    (said : List LineData) (stop : StopData)
-    (g : GoesOn files l0 l1 t0 t1 old kept) → HasLast old.ended g.lines old.held → (m : Moves l1 l2 old new said stop)
-    → (IsTrue new.ended → IsAtEnd l2) → Moved l0 l2 new (g.said ++ said) stop
-moved_over files l0 l1 l2 t0 t1 old new kept said stop g h m over =
+moved_over : (l0 l1 l2 : Option (List ℕ)) (old new : Reading) (before said : List LineData)
+    (stop : StopData) (g : HasRead l0 l1 old before at_end) → HasLast old.ended g.lines old.held
+    → (m : Moves l1 l2 old new said stop)
+    → (IsTrue new.ended → IsAtEnd l2) → HasRead l0 l2 new (before ++ said) stop
+moved_over l0 l1 l2 old new before said stop g h m over =
     let a = m.advances in
-    let past = a.over (ended_before files l0 l1 t0 t1 old kept g h) in
+    let past = a.over (ended_before l0 l1 old before g h) in
     let none : [] ≡ joined m.lines ++ new.held = sym (ap (λ (t : List ℕ). t ++ m.more) h.nothing_held ∙ past.0)
     ∙ a.parts in
     let sum : 0 ≡ length (joined m.lines) + length new.held = ap length none
@@ -148,17 +132,17 @@ moved_over files l0 l1 l2 t0 t1 old new kept said stop g h m over =
         nothing_held = held_none;
         why = inl past.1;
       });
-      reads = subst (λ (s : List LineData). Reads 0 g.lines s stop) (sym (append-nil g.said)
-          ∙ ap (λ (s : List LineData). g.said ++ s) (sym ends.0))
-          (subst (λ (st : StopData). Reads 0 g.lines g.said st) (sym ends.1) g.reads);
+      reads = subst (λ (s : List LineData). Reads 0 g.lines s stop) (sym (append-nil before)
+          ∙ ap (λ (s : List LineData). before ++ s) (sym ends.0))
+          (subst (λ (st : StopData). Reads 0 g.lines before st) (sym ends.1) g.reads);
     }
 
-pub moved : (files : Option Files) (l0 l1 l2 t0 t1 : Option (List ℕ)) (old new : Reading) (kept : KeptData)
-    (said : List LineData) (stop : StopData)
-    (g : GoesOn files l0 l1 t0 t1 old kept) (m : Moves l1 l2 old new said stop) → Moved l0 l2 new (g.said ++ said) stop
-moved files l0 l1 l2 t0 t1 old new kept said stop g m =
+pub moved : (l0 l1 l2 : Option (List ℕ)) (old new : Reading) (before said : List LineData)
+    (stop : StopData) (g : HasRead l0 l1 old before at_end) (m : Moves l1 l2 old new said stop)
+    → HasRead l0 l2 new (before ++ said) stop
+moved l0 l1 l2 old new before said stop g m =
     let over : IsTrue new.ended → IsAtEnd l2 = m.source_end g.source_end in
     elim g.whole [
-      | inl w ↦ moved_behind files l0 l1 l2 t0 t1 old new kept said stop g w m over
-      | inr h ↦ moved_over files l0 l1 l2 t0 t1 old new kept said stop g h m over
+      | inl w ↦ moved_behind l0 l1 l2 old new before said stop g w m over
+      | inr h ↦ moved_over l0 l1 l2 old new before said stop g h m over
     ]

@@ -39,7 +39,9 @@ use Rattle.ori_session.specs.Reads.{WhereReal, IsUnbuilt, IsReadFault}
 use Rattle.ori_session.specs.Commits.{reply_by, stays, left_open, AnswersOn}
 use Rattle.ori_session.specs.Runs.{IsAnswer, Executes}
 use Rattle.ori_engine.specs.Openings.{IsKeptState}
-use Rattle.ori_script.specs.Keeping.{StoreData, KeptData, Keeps, HasFailed, IsStepped}
+use Rattle.ori_script.specs.declared.past.Past.{Past}
+use Rattle.ori_script.specs.Pasts.{EarlierData, HasRoom, HasPlace, doubt_count, may_leave, IsReady}
+use Rattle.ori_script.specs.Keeping.{StoreData, store_behind, KeptData, Keeps, HasFailed, IsStepped}
 use Rattle.ori_script.proofs.Causes.{full_feed, free_feed, need_is, within, asked_back, IsFree, by_halt, by_feed}
 use Rattle.ori_script.proofs.Causes.{by_refusal, by_log, by_none}
 use Rattle.ori_script.proofs.Counted.{IsInside, no_device, no_busy, no_damaged, only_memory, fault_counted}
@@ -681,6 +683,8 @@ module _ (earlier : List EntryData) (failed : List (ℕ × EntryData)) (view : O
     failed_stays = stays_so earlier failed old new causes_old causes_new inside stays later;
     halted_told = λ at found. ended at (only (λ (r : ReplyData). SaysHalted at r) Said found);
     halted_stays = stays;
+    plain = refl;
+    same_failed = refl;
   }
 
   pub told_so : Executes session old new causes_old causes_new view text (get_or cur (session - 1) closed) reply left
@@ -720,3 +724,113 @@ module _ (earlier : List EntryData) (failed : List (ℕ × EntryData)) (view : O
       (stay_ended earlier failed old new causes_old causes_new inside session h.left Said (asked_by h.left)
       by.decision by.decides)
       (faults_kept causes_old causes_new by.decision by.causes)
+
+-- ---- behind earlier openings
+
+told_at : (before after : EarlierData) (view : Option ViewData) (old new : StateData) (causes_old causes_new : Causes)
+    (text : List ℕ) (cur cur' : List SessionData) (session : ℕ) (reply : Reply) (left : SessionData)
+    → after.entries ≡ before.entries → after.failed ≡ before.failed
+    → IsKeptState old causes_old → IsKeptState new causes_new → view ≡ option_map view_of old.base
+    → cur' ≡ set cur (session - 1) left
+    → Executes session old new causes_old causes_new view text (get_or cur (session - 1) closed) reply left
+    → IsStepped (record { store = store_behind before old causes_old; sessions = cur }) (statement session text)
+    (to_session session (reply_of reply ∷ []))
+    (record { store = store_behind after new causes_new; sessions = cur' })
+told_at before after view old new causes_old causes_new text cur cur' session reply left entries failed known now shows
+    is executes =
+    subst (λ (es : List EntryData). IsStepped (kept_as before.entries before.failed old causes_old cur)
+    (statement session text) (to_session session (reply_of reply ∷ []))
+    (kept_as es after.failed new causes_new cur')) (sym entries)
+    (subst (λ (ds : List (ℕ × EntryData)). IsStepped (kept_as before.entries before.failed old causes_old cur)
+    (statement session text) (to_session session (reply_of reply ∷ []))
+    (kept_as before.entries ds new causes_new cur')) (sym failed)
+    (told_so before.entries before.failed view old new causes_old causes_new text cur cur' session reply left known now
+    shows is executes))
+
+pub told_behind : (before after : EarlierData) → after ≡ before → (view : Option ViewData) (old new : StateData)
+    (causes_old causes_new : Causes) (text : List ℕ) (cur cur' : List SessionData) (session : ℕ) (reply : Reply)
+    (left : SessionData)
+    → IsKeptState old causes_old → IsKeptState new causes_new → view ≡ option_map view_of old.base
+    → cur' ≡ set cur (session - 1) left
+    → Executes session old new causes_old causes_new view text (get_or cur (session - 1) closed) reply left
+    → IsStepped (record { store = store_behind before old causes_old; sessions = cur }) (statement session text)
+    (to_session session (reply_of reply ∷ []))
+    (record { store = store_behind after new causes_new; sessions = cur' })
+told_behind before after same view old new causes_old causes_new text cur cur' session reply left =
+    told_at before after view old new causes_old causes_new text cur cur' session reply left
+    (ap (λ (e : EarlierData). e.entries) same) (ap (λ (e : EarlierData). e.failed) same)
+
+-- a statement for which there was no room
+pub wanting_behind : (before after : EarlierData) → after ≡ before → (state : StateData) (causes : Causes)
+    (text : List ℕ) (cur : List SessionData) (session : ℕ)
+    → IsStepped (record { store = store_behind before state causes; sessions = cur }) (statement session text)
+    (to_session session (replies.refused replies.no_memory ∷ []))
+    (record { store = store_behind after state causes; sessions = cur })
+wanting_behind before after same state causes text cur session =
+    subst (λ (e : EarlierData). IsStepped (record { store = store_behind before state causes; sessions = cur })
+    (statement session text) (to_session session (replies.refused replies.no_memory ∷ []))
+    (record { store = store_behind e state causes; sessions = cur })) (sym same) (record {
+      steps = λ run k. (run, (replies.refused replies.no_memory, inr (refl, refl), refl), k);
+      fault_told = λ told. absurd (cc told);
+      failed_stays = λ failed. failed;
+      halted_told = λ at told. absurd (cc (only (λ (reply : ReplyData). reply.told ≡ Err (replies.halted at))
+          (replies.refused replies.no_memory) told));
+      halted_stays = λ at was. was;
+      plain = refl;
+      same_failed = refl;
+    })
+
+-- ---- room
+
+-- an opening leaves at most one entry more after a statement
+module _ (session : ℕ) (old new : StateData) (causes_old : Causes) (known : IsKeptState old causes_old) where
+  count_one : (d : Option EntryData) → doubt_count d ≤ 1
+  count_one None = omega arith
+  count_one (Some e) = omega arith
+
+  same_leaves : new ≡ old → may_leave new ≤ old.front + 1
+  same_leaves same = omega (arith, ap may_leave same, count_one old.doubt)
+
+  none_doubted : (doubt : Option EntryData) (ended : Option ℕ) → (IsSome doubt → IsSome ended) → ended ≡ None
+      → doubt_count doubt ≡ 0
+  none_doubted None ended over going = refl
+  none_doubted (Some e) ended over going = absurd (cc (subst (λ (o : Option ℕ). IsSome o) going (over refl)))
+
+  decided_leaves : (asked : AskedData) (d : DecisionData) → Decides old session asked d new
+      → may_leave new ≤ old.front + 1
+  decided_leaves asked (accepted place rids) h =
+      omega (
+        arith,
+        h.3.front,
+        ap doubt_count h.3.doubt,
+        none_doubted old.doubt old.halted known.doubted h.0.allowed.asked_is.running,
+      )
+  decided_leaves asked (halted_at at) h = same_leaves h.1
+  decided_leaves asked (feed_full entries bytes) h = same_leaves h.4
+  decided_leaves asked (refused why) h = same_leaves h.3
+  decided_leaves asked (pages_full n heavy) h = same_leaves h.5
+  decided_leaves asked (log_full need room) h = same_leaves h.5
+  decided_leaves asked fault h =
+      omega (arith, ap (λ (s : StateData). s.front) h.1.2.same, count_one new.doubt)
+  decided_leaves asked device h = same_leaves h.1
+  decided_leaves asked (busy turn) h = same_leaves h.2
+  decided_leaves asked (damaged page) h = same_leaves h.2
+  decided_leaves asked no_memory h = same_leaves h
+
+  leaves : (causes_new : Causes) (view : Option ViewData) (text : List ℕ) (kept : SessionData) (reply : Reply)
+      (left : SessionData) → Executes session old new causes_old causes_new view text kept reply left
+      → may_leave new ≤ old.front + 1
+  leaves causes_new view text kept reply left (inl h) = same_leaves h.state
+  leaves causes_new view text kept reply left (inr (inl h)) = same_leaves h.state
+  leaves causes_new view text kept reply left (inr (inr h)) =
+      decided_leaves (asked_by h.left) h.decided.decision h.decided.decides
+
+  pub ready_so : (p : Past) (causes_new : Causes) (view : Option ViewData) (text : List ℕ) (kept : SessionData)
+      (reply : Reply) (left : SessionData) → Executes session old new causes_old causes_new view text kept reply left
+      → HasRoom p (old.front + 1) → HasPlace p → IsReady p new
+  ready_so p causes_new view text kept reply left executes room place =
+      let few = leaves causes_new view text kept reply left executes in
+      record {
+        room = record { entries = omega (arith, few, room.entries); marks = omega (arith, few, room.marks) };
+        place = λ _. place;
+      }

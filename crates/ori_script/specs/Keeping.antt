@@ -1,6 +1,7 @@
 -- When what is kept of a run is what the run has come to, and what a line does to it.
-use Rattle.std.specs.Prelude.{◌≡◌, ◌⊎◌, ◌-◌, ◌<◌, ◌≤◌, ℕ, List, [], ◌++◌, map, get_or, set, Option, Some, Result}
-use Rattle.std.specs.Prelude.{Err, Any, IsTrue, IsSome, IfOk, ⊤}
+use Rattle.std.specs.Prelude.{◌≡◌, ◌⊎◌, ◌+◌, ◌-◌, ◌<◌, ◌≤◌, ℕ, List, [], ◌∷◌, ◌++◌, map, get_or, set, Option, Some}
+use Rattle.std.specs.Prelude.{None, Result}
+use Rattle.std.specs.Prelude.{Ok, Err, option_map, Any, IsTrue, IsSome, IfOk, ⊤}
 use Rattle.ori_bytes.specs.declared.causes.Causes.{Causes}
 use Rattle.ori_bytes.specs.declared.limits.TheConstants.{MAX_SESSIONS}
 use Rattle.ori_bytes.specs.declared.memory.NoMemory.{NoMemory}
@@ -11,14 +12,15 @@ use Rattle.ori_spec_data.specs.Replies.{ReplyData, halted, unbuilt}
 use Rattle.ori_spec_data.specs.Views.{ViewData}
 use Rattle.ori_spec_texts.specs.Line.{LineData, statement, tries, step, StepData, flush, settle, checkpoint, reopen}
 use Rattle.ori_spec_texts.specs.Line.{history, bag, check}
-use Rattle.ori_spec_texts.specs.Reply.{AnswerData, to_session, to_history, to_step, to_done, answer_text}
-use Rattle.ori_spec_texts.specs.Reply.{tells_fault}
+use Rattle.ori_spec_texts.specs.Reply.{AnswerData, to_session, to_history, to_step, to_done, answer_text, tells_fault}
 use Rattle.ori_spec_runs.specs.Answer.{SessionData, closed}
 use Rattle.ori_spec_runs.specs.Run.{RunData, Step}
 use Rattle.ori_model.specs.declared.reply.Reply.{Reply}
 use Rattle.ori_session.specs.Runs.{Executes}
 use Rattle.ori_session.specs.Sessions.{data_of}
+use Rattle.ori_script.specs.declared.past.Past.{Past}
 use Rattle.ori_script.specs.declared.sessions.Sessions.{Sessions}
+use Rattle.ori_script.specs.Pasts.{EarlierData, earlier_of}
 
 -- ---- sessions
 
@@ -50,12 +52,16 @@ pub record KeptData : Type 0 where
   pub store : StoreData
   pub sessions : List SessionData
 
--- those of a run with one opening, over a keeper
-abbrev pub store : {R : Type 0} (keeps : R → StateData) (counts : R → Causes) → R → StoreData
-store keeps counts keeper = record { earlier = []; failed = []; state = keeps keeper; causes = counts keeper }
+-- of an opening behind others, whose keeper has come to this state
+abbrev pub store_behind : EarlierData → StateData → Causes → StoreData
+store_behind e state causes =
+    record { earlier = e.entries; failed = e.failed; state = state; causes = causes }
 
-abbrev pub kept : {R : Type 0} (keeps : R → StateData) (counts : R → Causes) → R → Sessions → KeptData
-kept keeps counts keeper sessions = record { store = store keeps counts keeper; sessions = sessions_of sessions }
+abbrev pub kept : {R : Type 0} (keeps : R → StateData) (counts : R → Causes) → Past → R → Sessions → KeptData
+kept keeps counts past keeper sessions = record {
+  store = store_behind (earlier_of past) (keeps keeper) (counts keeper);
+  sessions = sessions_of sessions;
+}
 
 -- it is what the run has come to
 pub record Keeps (kept : KeptData) (run : RunData) : Type 0 where
@@ -69,21 +75,62 @@ pub record Keeps (kept : KeptData) (run : RunData) : Type 0 where
   pub limit : kept.store.state.limit ≡ run.limit
   pub sessions : kept.sessions ≡ run.sessions
 
--- commits have ended, or one was answered a fault
+-- commits have ended since the opening, or one was answered a fault
 abbrev pub HasFailed : StoreData → Type 0
 HasFailed store = IsSome store.state.halted ⊎ (0 < store.causes.fault)
 
 -- ---- a step
 
--- what a step is answered over a history
-abbrev pub step_answer : List EntryData → StepData → AnswerData
-step_answer entries (flush part) = to_step unbuilt
-step_answer entries settle = to_step unbuilt
-step_answer entries checkpoint = to_step unbuilt
-step_answer entries reopen = to_step unbuilt
-step_answer entries history = to_history entries
-step_answer entries (bag vertex dir class) = to_step unbuilt
-step_answer entries check = to_step unbuilt
+-- what a step is answered over a history, where it isn't a reopening
+abbrev pub step_answer : List EntryData → StepData → Option AnswerData
+step_answer entries (flush part) = Some (to_step unbuilt)
+step_answer entries settle = Some (to_step unbuilt)
+step_answer entries checkpoint = Some (to_step unbuilt)
+step_answer entries reopen = None
+step_answer entries history = Some (to_history entries)
+step_answer entries (bag vertex dir class) = Some (to_step unbuilt)
+step_answer entries check = Some (to_step unbuilt)
+
+-- so it prints
+abbrev pub StepPrints : List EntryData → StepData → Option (List ℕ) → Type 0
+StepPrints entries s text = text ≡ option_map answer_text (step_answer entries s)
+
+-- it prints something
+abbrev pub IsPrinted : StepData → Type 0
+IsPrinted (flush part) = ⊤
+IsPrinted settle = ⊤
+IsPrinted checkpoint = ⊤
+IsPrinted reopen = ⊥
+IsPrinted history = ⊤
+IsPrinted (bag vertex dir class) = ⊤
+IsPrinted check = ⊤
+
+-- the text that a step prints, where there was memory for it
+abbrev pub StepAnswers : List EntryData → StepData → Result (Option (List ℕ)) NoMemory → Type 0
+StepAnswers entries s (Ok text) = StepPrints entries s text
+StepAnswers entries s (Err why) = IsPrinted s
+
+-- a text is to be printed
+abbrev pub printed : Result (List ℕ) NoMemory → Result (Option (List ℕ)) NoMemory
+printed (Ok text) = Ok (Some text)
+printed (Err why) = Err why
+
+-- a step is a reopening, or none
+abbrev pub reopening : StepData → ℕ
+reopening (flush part) = 0
+reopening settle = 0
+reopening checkpoint = 0
+reopening reopen = 1
+reopening history = 0
+reopening (bag vertex dir class) = 0
+reopening check = 0
+
+-- these lines ask for so many reopenings
+abbrev pub reopenings : List LineData → ℕ
+reopenings [] = 0
+reopenings (statement session text ∷ lines) = reopenings lines
+reopenings (tries session count text ∷ lines) = reopenings lines
+reopenings (step s ∷ lines) = reopening s + reopenings lines
 
 -- ---- answers that commits have ended
 
@@ -102,14 +149,17 @@ IsOfSession (statement session text) = (1 ≤ session) × (session ≤ MAX_SESSI
 IsOfSession (tries session count text) = (1 ≤ session) × (session ≤ MAX_SESSIONS)
 IsOfSession (step s) = ⊤
 
--- A line was run with this answer, and what is kept is what the run has come to. The answer tells of a fault only where
--- one has come, and that commits have ended only where they have, at the count of faults that it names.
+-- A line that asks for no reopening was run with this answer, and what is kept is what the run has come to. The answer
+-- tells of a fault only where one has come, and that commits have ended only where they have, at the count of faults
+-- that it names.
 pub record IsStepped (old : KeptData) (line : LineData) (answer : AnswerData) (new : KeptData) : Type 0 where
   pub steps : (run : RunData) → Keeps old run → (next : RunData) × Step run line answer next × Keeps new next
   pub fault_told : IsTrue (tells_fault answer) → HasFailed new.store
   pub failed_stays : HasFailed old.store → HasFailed new.store
   pub halted_told : (at : ℕ) → TellsHalted at answer → new.store.state.halted ≡ Some at
   pub halted_stays : (at : ℕ) → old.store.state.halted ≡ Some at → new.store.state.halted ≡ Some at
+  pub plain : reopenings (line ∷ []) ≡ 0
+  pub same_failed : new.store.failed ≡ old.store.failed
 
 -- A line was run; the text of its answer, where there was memory for it.
 pub record IsAnswered (old : KeptData) (line : LineData) (text : Result (List ℕ) NoMemory)
@@ -117,3 +167,9 @@ pub record IsAnswered (old : KeptData) (line : LineData) (text : Result (List �
   pub answer : AnswerData
   pub stepped : IsStepped old line answer new
   pub text_is : IfOk text (λ bytes. bytes ≡ answer_text answer)
+
+-- A line was run, and this is its answer's text; or it asks for a reopening, and nothing was done.
+abbrev pub Answers : KeptData → LineData → Result (Option (List ℕ)) NoMemory → KeptData → Type 0
+Answers old line (Ok None) new = (line ≡ step reopen) × (new ≡ old)
+Answers old line (Ok (Some text)) new = IsAnswered old line (Ok text) new
+Answers old line (Err why) new = IsAnswered old line (Err why) new

@@ -1,6 +1,6 @@
 -- What the top call promises.
-use Rattle.std.specs.Prelude.{◌≡◌, ◌⊎◌, ◌↔◌, ◌≤◌, ℕ, Bool, false, List, [], ◌++◌, IsTrue, IfSome, Option, Some, None}
-use Rattle.std.specs.Prelude.{IsSome}
+use Rattle.std.specs.Prelude.{◌≡◌, ◌⊎◌, ◌↔◌, ◌≤◌, ℕ, Bool, false, List, [], ◌∷◌, ◌++◌, length, IsTrue, IsSome, IfSome}
+use Rattle.std.specs.Prelude.{Any, Option, Some, None}
 use Rattle.ori_volume.specs.Causes.{Rose}
 use Rattle.ori_volume.specs.Disk.{Files, files_of}
 use Rattle.ori_volume.specs.Story.{Story, Tells}
@@ -12,6 +12,7 @@ use Rattle.ori_spec_crash.specs.Crash.{CrashSafe, doubts}
 use Rattle.ori_rows.specs.Stage.{IsDatabase, OpensTo}
 use Rattle.ori_log.specs.Files.{files_data}
 use Rattle.ori_engine.specs.Openings.{Finds, IsHaltedSince}
+use Rattle.ori_script.specs.Keeping.{reopenings}
 use Rattle.ori_script.specs.Script.{LeftData, IsRun, TellFault, TellHalted}
 
 -- ---- before and after
@@ -57,12 +58,15 @@ empty_report = record { was_empty = false; history = []; doubt = None; failed = 
 -- ---- the parts of the promises
 
 -- No line was run: nothing was taken from the source or given to the sink, and the report is empty. The words are wrong
--- (1), the opening was out of memory (2), the volume failed (5), or it is none that can be opened (6).
+-- (1), the opening was out of memory (2), the volume failed (5), or the files, as they read, aren't those of a database
+-- (6), and read the same then.
 pub record IsNotRun (old new : OutsideData) (status : ℕ) (report : ReportData) : Type 0 where
   pub left : new.left ≡ old.left
   pub taken : new.taken ≡ old.taken
   pub nothing : report ≡ empty_report
   pub why : (status ≡ 1) ⊎ (status ≡ 2) ⊎ (status ≡ 5) ⊎ (status ≡ 6)
+  pub form : status ≡ 6 → IfSome old.files (λ fs. IsDatabase (files_data fs) → ⊥)
+  pub unchanged : status ≡ 6 → new.files ≡ old.files
 
 -- what the report tells of what a run left
 abbrev pub left_in : ReportData → Option ℕ → LeftData
@@ -73,20 +77,42 @@ left_in report halted = record {
   halted = halted;
 }
 
--- The volume was opened, and lines were run. Commits have ended where a call on the log has failed since, and only
--- there. An answer tells of a fault only where a call on the volume failed and commits have ended. All answers that
--- tell that commits have ended name one count of faults: it rose above the volume's before, or stands at the end of a
--- `u64`, and is at most the one after.
+-- how many calls of the volume have failed, and how many writes, cuts and syncs of its log
+pub record CountsData : Type 0 where
+  pub faults : ℕ
+  pub log_faults : ℕ
+
+abbrev pub counts_in : OutsideData → CountsData
+counts_in seen = record { faults = seen.faults; log_faults = seen.log_faults }
+
+-- Between these counts one opening came after the other. In each commits ended at this count of faults, where they did:
+-- exactly where a call on the log failed in it. The count rose above that at the opening before, or stands at the end
+-- of a `u64`, and is at most that at the opening's end.
+abbrev pub HaltBetween : List (Option ℕ) → CountsData → CountsData → Type 0
+HaltBetween [] old new = new ≡ old
+HaltBetween (halted ∷ halts) old new =
+    (mid : CountsData) × (old.faults ≤ mid.faults) × (old.log_faults ≤ mid.log_faults)
+    × IsHaltedSince old.faults mid.faults old.log_faults mid.log_faults halted × HaltBetween halts mid new
+
+-- The volume was opened, and lines were run over one or more openings. Commits ended in an opening where a call on the
+-- log failed in it, and only there. An answer tells of a fault only where a call on the volume failed and commits ended
+-- in an opening. An answer that tells that commits have ended names the count of an opening. An opening comes for each
+-- reopening, and decides one entry at most. Where the last reopening failed, its faults come behind the last opening's
+-- end.
 pub record IsRunOver (old new : OutsideData) (status : ℕ) (report : ReportData) : Type 0 where
+  pub halts : List (Option ℕ)
   pub halted : Option ℕ
-  pub halted_since : IsHaltedSince old.faults new.faults old.log_faults new.log_faults halted
+  pub at_end : CountsData
+  pub halted_between : HaltBetween (halts ++ halted ∷ []) (counts_in old) at_end
   pub answers : List AnswerData
   pub run : IsRun old.files old.left new.left old.taken new.taken status answers (left_in report halted)
+  pub ended_there : run.late ≡ [] → counts_in new ≡ at_end
+  pub one_each : length halts ≡ reopenings run.said
+  pub few_decided : length report.failed ≤ reopenings run.said
   pub fault_told : TellFault answers → Rose old.faults new.faults
-  pub fault_ends : TellFault answers → IsSome halted
-  pub halted_told : (at : ℕ) → TellHalted at answers → halted ≡ Some at
+  pub fault_ends : TellFault answers → Any (λ h. IsSome h) (halts ++ halted ∷ [])
+  pub halted_told : (at : ℕ) → TellHalted at answers → Any (λ h. h ≡ Some at) (halts ++ halted ∷ [])
   pub emptiness : (found : FoundData) → Finds old.files found → IsTrue report.was_empty ↔ (found.base ≡ initial_base)
-  pub none_decided : report.failed ≡ []
 
 -- A crash at any moment of the command leaves a prefix of its history with what was acknowledged, or that with an entry
 -- whose own write failed.
@@ -116,9 +142,9 @@ pub record Promises (old new : OutsideData) (status : ℕ) (report : ReportData)
   -- A crash at any moment leaves a prefix of the history with every entry that was acknowledged.
   pub crash : Tells (Crashes report) old.story new.story
   -- Status 6 comes only where the files, as they read, aren't those of a database,
-  pub not_a_database : status ≡ 6 → IfSome old.files (λ fs. IsDatabase (files_data fs) → ⊥)
-  -- and they read the same then.
-  pub unchanged : status ≡ 6 → new.files ≡ old.files
+  pub not_a_database : status ≡ 6 → IfSome new.files (λ fs. IsDatabase (files_data fs) → ⊥)
+  -- and never over files that opened to a base.
+  pub never_lost : status ≡ 6 → IfSome old.files (λ fs. (base : BaseData) → OpensTo fs base → ⊥)
   -- Over such files it comes, unless memory ran out or the volume failed before.
   pub only_database : IfSome old.files (λ fs. (IsDatabase (files_data fs) → ⊥)
       → (status ≡ 1) ⊎ (status ≡ 2) ⊎ (status ≡ 5) ⊎ (status ≡ 6))

@@ -6,6 +6,8 @@
 
 mod answering;
 mod database;
+mod past;
+mod reopening;
 mod run;
 mod script;
 mod sessions;
@@ -13,5 +15,6 @@ pub mod status;
 
 pub use answering::answer;
 pub use database::Database;
+pub use past::Past;
 pub use script::{no_report, run_script};
 pub use sessions::Sessions;

@@ -3,24 +3,36 @@ ghost use Rattle.std.specs.Prelude.{◌≡◌, ◌≤◌, ◌<◌, Option, List,
 ghost use Rattle.ori_bytes.specs.declared.limits.TheConstants.{MAX_INPUT_BYTES};
 ghost use Rattle.ori_volume.specs.Causes.{Rose};
 ghost use Rattle.ori_volume.specs.Disk.{Files};
-ghost use Rattle.ori_spec_data.specs.Limits.{FoundData};
 ghost use Rattle.ori_text.specs.LineReading.{line_of};
-ghost use Rattle.ori_engine.specs.Openings.{Finds, IsStarted, IsFresh, StaysOpen};
-ghost use Rattle.ori_script.specs.Keeping.{IsOfSession, store, kept};
-ghost use Rattle.ori_script.specs.Script.{GoesOn, HasEnded};
-ghost use Rattle.ori_script.specs.Turns.{IsAnsweredTo, IsTurned, fault_status};
+ghost use Rattle.ori_engine.specs.Openings.{StaysOpen};
+ghost use Rattle.ori_script.specs.Pasts.{earlier_of, IsReady};
+ghost use Rattle.ori_script.specs.Keeping.{IsOfSession, kept};
+ghost use Rattle.ori_script.specs.Script.{GoesOn};
+ghost use Rattle.ori_script.specs.Turns.{TurnsBy, IsTurned, IsStopped, fault_status};
 
-use crate::{Database, Sessions, answer, status};
+use crate::{Database, Past, Sessions, answer, status};
+use ori_bytes::NoMemory;
 use ori_text::{Line, LineFault, LineReader, print};
 use ori_volume::{Failed, Sink, Source};
 use std::alloc::Global;
 
 // What a line of input led to.
 #[derive(Clone, Copy, Debug, PartialEq, Eq)]
-enum Turn {
+pub(crate) enum Turn {
     // It has its answer, which was printed.
     Answered,
+    // It asks for a reopening.
+    Reopens,
     // The run ends with this status.
+    Ended(u8),
+}
+
+// Where the lines of an opening end.
+#[derive(Clone, Copy, Debug, PartialEq, Eq)]
+pub(crate) enum Stop {
+    // At a line that asks for a reopening.
+    Reopens,
+    // At the end of the run, with this status.
     Ended(u8),
 }
 
@@ -39,6 +51,7 @@ fn status_of(fault: LineFault) -> u8
 // Answers a line that was read, and prints the answer.
 fn answer_line<D: Database, K: Sink>(
     alloc: Global,
+    past: &mut Past,
     sessions: &mut Sessions,
     database: &mut D,
     line: &Line,
@@ -46,15 +59,20 @@ fn answer_line<D: Database, K: Sink>(
 ) -> Turn
     requires { IsOfSession (line_of line.now) }
     ensures answered { let keeps = kept D.state D.causes in
-        IsAnsweredTo (keeps database.old sessions.old) (line_of line.now) (K.taken sink.old) (K.taken sink.new) result
-        (keeps database.new sessions.new) }
+        TurnsBy (keeps past.old database.old sessions.old) (line_of line.now) (K.taken sink.old) (K.taken sink.new)
+        result (keeps past.new database.new sessions.new) }
+    ensures same { earlier_of past.new ≡ earlier_of past.old }
+    ensures ready { IsReady past.old (D.state database.old) → IsReady past.new (D.state database.new) }
     ensures stays { StaysOpen D.state D.sound database.old database.new }
     ensures no_other { result ≡ Turn.Ended 3 → ⊥ }
+    ensures no_opening { (result ≡ Turn.Ended 5 → ⊥) × (result ≡ Turn.Ended 6 → ⊥) × (result ≡ Turn.Ended 1 → ⊥) }
     ensures later { K.faults sink.old ≤ K.faults sink.new }
     ensures cause { result ≡ Turn.Ended 4 → Rose (K.faults sink.old) (K.faults sink.new) }
 {
-    let Ok(text) = answer(alloc, sessions, database, line) else {
-        return Turn::Ended(status::NO_MEMORY);
+    let text = match answer(alloc, past, sessions, database, line) {
+        Ok(Some(text)) => text,
+        Ok(None) => return Turn::Reopens,
+        Err(NoMemory) => return Turn::Ended(status::NO_MEMORY),
     };
     match print(sink, text.as_str()) {
         Ok(()) => Turn::Answered,
@@ -65,6 +83,7 @@ fn answer_line<D: Database, K: Sink>(
 // Reads a line and answers it.
 fn take_turn<D: Database, S: Source, K: Sink>(
     alloc: Global,
+    past: &mut Past,
     sessions: &mut Sessions,
     database: &mut D,
     reader: &mut LineReader,
@@ -73,55 +92,65 @@ fn take_turn<D: Database, S: Source, K: Sink>(
 ) -> Turn
     requires { reader.old.given ≤ MAX_INPUT_BYTES }
     ensures turned { let keeps = kept D.state D.causes in
-        (files : Option Files) (left taken : Option (List ℕ))
-        → GoesOn files left (S.left source.old) taken (K.taken sink.old) reader.old (keeps database.old sessions.old)
-        → IsTurned files left (S.left source.new) taken (K.taken sink.new) reader.new
-        (keeps database.new sessions.new) result }
+        (files : Option Files) (halts : List (Option ℕ)) (left taken : Option (List ℕ))
+        → GoesOn files halts left (S.left source.old) taken (K.taken sink.old) reader.old
+        (keeps past.old database.old sessions.old)
+        → IsTurned files halts left (S.left source.new) taken (K.taken sink.new) reader.new
+        (keeps past.new database.new sessions.new) result }
+    ensures same { earlier_of past.new ≡ earlier_of past.old }
+    ensures ready { IsReady past.old (D.state database.old) → IsReady past.new (D.state database.new) }
     ensures stays { StaysOpen D.state D.sound database.old database.new }
     ensures further { result ≡ Turn.Answered
         → (reader.old.given < reader.new.given) × (reader.new.given ≤ MAX_INPUT_BYTES) }
+    ensures further_too { result ≡ Turn.Reopens
+        → (reader.old.given < reader.new.given) × (reader.new.given ≤ MAX_INPUT_BYTES) }
+    ensures no_opening { (result ≡ Turn.Ended 5 → ⊥) × (result ≡ Turn.Ended 6 → ⊥) × (result ≡ Turn.Ended 1 → ⊥) }
     ensures source_later { S.faults source.old ≤ S.faults source.new }
     ensures sink_later { K.faults sink.old ≤ K.faults sink.new }
     ensures source_cause { result ≡ Turn.Ended 3 → Rose (S.faults source.old) (S.faults source.new) }
     ensures sink_cause { result ≡ Turn.Ended 4 → Rose (K.faults sink.old) (K.faults sink.new) }
 {
     match reader.next(alloc, source) {
-        Ok(Some(line)) => answer_line(alloc, sessions, database, &line, sink),
+        Ok(Some(line)) => answer_line(alloc, past, sessions, database, &line, sink),
         Ok(None) => Turn::Ended(status::INPUT_ENDED),
         Err(fault) => Turn::Ended(status_of(fault)),
     }
 }
 
-/// Reads lines and answers each before the next is read, up to the end of the input or to what ends the run before. The
-/// answer is the run's status.
+/// Reads lines and answers each before the next is read, up to the end of the input, to what ends the run before, or to
+/// a line that asks for a reopening.
 pub(crate) fn run_lines<D: Database, S: Source, K: Sink>(
     alloc: Global,
+    past: &mut Past,
+    sessions: &mut Sessions,
     database: &mut D,
+    reader: &mut LineReader,
     source: &mut S,
     sink: &mut K,
-) -> u8
-    requires { IsFresh (D.state database.old) }
-    ensures run { let keeps = D.state in
-        (files : Option Files)
-        → ((found : FoundData) → Finds files found → IsStarted found (keeps database.old))
-        → HasEnded files (S.left source.old) (S.left source.new) (K.taken sink.old) (K.taken sink.new) result
-        (store keeps D.causes database.new) }
+) -> Stop
+    requires { reader.old.given ≤ MAX_INPUT_BYTES }
+    ensures run { let keeps = kept D.state D.causes in
+        (files : Option Files) (halts : List (Option ℕ)) (left taken : Option (List ℕ))
+        → GoesOn files halts left (S.left source.old) taken (K.taken sink.old) reader.old
+        (keeps past.old database.old sessions.old)
+        → IsStopped files halts left (S.left source.new) taken (K.taken sink.new) reader.new
+        (keeps past.new database.new sessions.new) result }
+    ensures same { earlier_of past.new ≡ earlier_of past.old }
+    ensures ready { IsReady past.old (D.state database.old) → IsReady past.new (D.state database.new) }
     ensures stays { StaysOpen D.state D.sound database.old database.new }
+    ensures further { result ≡ Stop.Reopens
+        → (reader.old.given < reader.new.given) × (reader.new.given ≤ MAX_INPUT_BYTES) }
+    ensures no_opening { (result ≡ Stop.Ended 5 → ⊥) × (result ≡ Stop.Ended 6 → ⊥) × (result ≡ Stop.Ended 1 → ⊥) }
     ensures source_later { S.faults source.old ≤ S.faults source.new }
     ensures sink_later { K.faults sink.old ≤ K.faults sink.new }
-    ensures source_cause { result ≡ 3 → Rose (S.faults source.old) (S.faults source.new) }
-    ensures sink_cause { result ≡ 4 → Rose (K.faults sink.old) (K.faults sink.new) }
+    ensures source_cause { result ≡ Stop.Ended 3 → Rose (S.faults source.old) (S.faults source.new) }
+    ensures sink_cause { result ≡ Stop.Ended 4 → Rose (K.faults sink.old) (K.faults sink.new) }
 {
-    let Ok(mut sessions) = Sessions::new(alloc) else {
-        return status::NO_MEMORY;
-    };
-    let Ok(mut reader) = LineReader::new(alloc) else {
-        return status::NO_MEMORY;
-    };
     'lines: loop {
-        match take_turn(alloc, &mut sessions, database, &mut reader, source, sink) {
+        match take_turn(alloc, past, sessions, database, reader, source, sink) {
             Turn::Answered => {}
-            Turn::Ended(status) => return status,
+            Turn::Reopens => return Stop::Reopens,
+            Turn::Ended(status) => return Stop::Ended(status),
         }
     }
 }

@@ -1,19 +1,22 @@
 // A script over a volume, from its opening to its end.
-ghost use Rattle.std.specs.Prelude.{◌≡◌, ◌⊎◌, Option, option_map};
+ghost use Rattle.std.specs.Prelude.{◌≡◌, ◌≤◌, Option, Some, option_map};
+ghost use Rattle.ori_volume.specs.Causes.{Rose};
 ghost use Rattle.ori_volume.specs.Story.{Story, Tells};
 ghost use Rattle.ori_model.specs.Data.{entry_of};
-ghost use Rattle.ori_model.specs.Standing.{PastData};
-ghost use Rattle.ori_engine.specs.Doubts.{doubt_of, entry_in_doubt};
-ghost use Rattle.ori_engine.specs.Openings.{IsCounted};
-ghost use Rattle.ori_script.specs.Reports.{report_of, ReportsOn};
+ghost use Rattle.ori_script.specs.Pasts.{nothing_earlier, earlier_of, IsReady};
+ghost use Rattle.ori_script.specs.Reports.{report_of};
+ghost use Rattle.ori_script.specs.Turns.{SaysDone};
+ghost use Rattle.ori_script.specs.Openings.{VolumeData, volume_data, engine_data, TellsOne, Begins, HasRunOver};
 ghost use Rattle.ori_script.specs.Top.{empty_report, outside, Crashes, Promises};
 
-use crate::run::run_lines;
-use crate::status;
+use crate::reopening::{Closed, close_run, reopen, start_status};
+use crate::run::{Stop, run_lines};
+use crate::{Past, Sessions, status};
 use ori_bytes::NumberList;
-use ori_engine::{Doubt, Ended, Engine, StartFault, Unopened};
-use ori_model::{Entry, EntryList, Outcome, PlacedList, Reader, Report};
-use ori_volume::{Sink, Source, Volume};
+use ori_engine::{Engine, Unopened};
+use ori_model::{EntryList, Outcome, PlacedList, Reader, Report};
+use ori_text::{LineReader, print, step_done_text};
+use ori_volume::{Failed, Sink, Source, Volume};
 use std::alloc::Global;
 
 /// The report of no run; takes no memory.
@@ -30,62 +33,79 @@ pub fn no_report(alloc: Global) -> Report
     }
 }
 
-// The status of a volume that wasn't opened.
-fn start_status(fault: StartFault) -> u8
-    ensures volume { result ≡ 5 → fault ≡ StartFault.Fault }
-    ensures form { result ≡ 6 → fault ≡ StartFault.NotADatabase }
-    ensures why { (result ≡ 2) ⊎ (result ≡ 5) ⊎ (result ≡ 6) }
+// Prints that a step was done; the status of the run, where that ends it.
+fn say_done<K: Sink>(alloc: Global, sink: &mut K) -> Option<u8>
+    ensures said { SaysDone (K.taken sink.old) (K.taken sink.new) result }
+    ensures later { K.faults sink.old ≤ K.faults sink.new }
+    ensures cause { result ≡ Some 4 → Rose (K.faults sink.old) (K.faults sink.new) }
 {
-    match fault {
-        StartFault::Fault => status::VOLUME_FAILED,
-        StartFault::NotADatabase => status::NOT_A_DATABASE,
-        StartFault::NoMemory => status::NO_MEMORY,
+    let Ok(text) = step_done_text(alloc) else {
+        return Some(status::NO_MEMORY);
+    };
+    match print(sink, text.as_str()) {
+        Ok(()) => None,
+        Err(Failed) => Some(status::SINK_FAILED),
     }
 }
 
-// The entry in doubt, without the number of records that would show it.
-fn entry_alone(doubt: Option<Doubt>) -> Option<Entry>
-    ensures { option_map entry_of result ≡ entry_in_doubt (option_map doubt_of doubt) }
+// The lines over one opening after the other, up to the end of the run.
+fn run_openings<V: Volume, S: Source, K: Sink>(
+    alloc: Global,
+    engine: Engine<V>,
+    past: &mut Past,
+    source: &mut S,
+    sink: &mut K,
+) -> Closed<V>
+    requires first { earlier_of past.old ≡ nothing_earlier }
+    requires ready { IsReady past.old (⟦<Engine<V> as Reader>⟧.state engine) }
+    ensures over { let seen = volume_data V.files V.story V.faults V.log_faults in
+        let knows = engine_data ⟦<Engine<V> as Reader>⟧.state ⟦<Engine<V> as Reader>⟧.causes
+        ⟦<Engine<V> as Reader>⟧.sound in
+        (entry : VolumeData) → TellsOne entry.told → Begins entry (knows engine) (seen engine.volume)
+        → HasRunOver entry (S.left source.old) (S.left source.new) (K.taken sink.old) (K.taken sink.new) result.status
+        (earlier_of past.new) (option_map entry_of result.doubt) (seen result.volume) }
+    ensures no_words { result.status ≡ 1 → ⊥ }
+    ensures source_later { S.faults source.old ≤ S.faults source.new }
+    ensures sink_later { K.faults sink.old ≤ K.faults sink.new }
+    ensures source_cause { result.status ≡ 3 → Rose (S.faults source.old) (S.faults source.new) }
+    ensures sink_cause { result.status ≡ 4 → Rose (K.faults sink.old) (K.faults sink.new) }
 {
-    match doubt {
-        None => None,
-        Some(Doubt { entry, .. }) => Some(entry),
-    }
-}
-
-// The outcome of a run over an engine that has come to its end.
-fn outcome<V: Volume>(alloc: Global, status: u8, was_empty: bool, engine: Engine<V>) -> Outcome<V>
-    ensures status { result.status ≡ status }
-    ensures report { ReportsOn (⟦<Engine<V> as Reader>⟧.state engine) was_empty (report_of result.report) }
-    ensures counts { IsCounted (⟦<Engine<V> as Reader>⟧.state engine) (⟦<Engine<V> as Reader>⟧.causes engine)
-        (V.faults result.volume) (V.log_faults result.volume) }
-    ensures crash { (first : PastData) → ⟦<Engine<V> as Reader>⟧.sound engine first
-        → Tells (Crashes (report_of result.report)) first.story (V.story result.volume) }
-{
-    let Ended {
-        volume,
-        feed,
-        marks,
-        doubt,
-    } = engine.end();
-    Outcome {
-        status,
-        volume,
-        report: Report {
-            was_empty,
-            history: feed,
-            doubt: entry_alone(doubt),
-            failed: PlacedList::new(alloc),
-            marks,
-        },
+    let Ok(mut sessions) = Sessions::new(alloc) else {
+        return close_run(status::NO_MEMORY, engine, past);
+    };
+    let Ok(mut reader) = LineReader::new(alloc) else {
+        return close_run(status::NO_MEMORY, engine, past);
+    };
+    let mut engine = engine;
+    'openings: loop {
+        match run_lines(
+            alloc,
+            past,
+            &mut sessions,
+            &mut engine,
+            &mut reader,
+            source,
+            sink,
+        ) {
+            Stop::Ended(status) => return close_run(status, engine, past),
+            Stop::Reopens => {}
+        }
+        engine = match reopen(alloc, engine, past, &mut sessions) {
+            Ok(engine) => engine,
+            Err(closed) => return closed,
+        };
+        if let Some(status) = say_done(alloc, sink) {
+            return close_run(status, engine, past);
+        }
     }
 }
 
 /// Runs a script over a volume. The volume is opened: the files of an empty one are made, and of another the log is
-/// read. Then lines are read and answered one after the other, each before the next is read. The status is 0 at the end
-/// of the input; 2 where it is out of memory outside a statement; 3 where the source failed, 4 the sink, 5 the volume
-/// while it was opened; 6 where its files aren't those of a database; 8 at a line that is none of the forms; 9 at the
-/// line in which the first byte past 2^30 lies.
+/// read. Then lines are read and answered one after the other, each before the next is read. A line may ask for a
+/// reopening: the sessions let go what they have open, the volume is opened again, and the tail of its log decides an
+/// entry in doubt. The status is 0 at the end of the input; 2 where it is out of memory outside a statement; 3 where
+/// the source failed, 4 the sink, 5 the volume while it was opened; 6 where its files aren't those of a database; 8 at
+/// a line that is none of the forms; 9 at the line in which the first byte past 2^30 lies.
 pub fn run_script<V: Volume, S: Source, K: Sink>(
     alloc: Global,
     volume: V,
@@ -97,7 +117,7 @@ pub fn run_script<V: Volume, S: Source, K: Sink>(
         (report_of result.report) }
     ensures no_words { result.status ≡ 1 → ⊥ }
 {
-    let mut engine = match Engine::start(alloc, volume) {
+    let engine = match Engine::start(alloc, volume) {
         Ok(engine) => engine,
         Err(Unopened { fault, volume }) => {
             return Outcome {
@@ -108,6 +128,15 @@ pub fn run_script<V: Volume, S: Source, K: Sink>(
         }
     };
     let was_empty = engine.is_initial();
-    let status = run_lines(alloc, &mut engine, source, sink);
-    outcome(alloc, status, was_empty, engine)
+    let mut past = Past::new(alloc);
+    let Closed {
+        status,
+        volume,
+        doubt,
+    } = run_openings(alloc, engine, &mut past, source, sink);
+    Outcome {
+        status,
+        volume,
+        report: past.report(was_empty, doubt),
+    }
 }

@@ -18,7 +18,7 @@ ghost use Rattle.ori_session.specs.Reads.{IsStage, HasFront, CanGoOn};
 
 use crate::hand::Literal;
 use crate::replies::{granted, refused};
-use crate::rows::{rows_as, written};
+use crate::rows::{put_named, rows_as, written};
 use crate::{Pending, Session, Stage};
 use ori_bytes::{NoMemory, Rid, RidList, Text};
 use ori_model::{Change, ChangeList, Plan, Refusal, Reply, RowList, Stored};
@@ -46,7 +46,7 @@ pub fn creation(
         ≡ create temp (codes "V") (pair name.now (literal_of value.entry) no_pairs)) }
 {
     let mut fields = FieldList::new(alloc);
-    fields.set(Text::from_str(alloc, name)?, written(alloc, value)?)?;
+    put_named(alloc, &mut fields, name, written(alloc, value)?)?;
     Ok(Change::Create {
         temp,
         class: Text::from_str(alloc, "V")?,
@@ -65,7 +65,7 @@ pub fn with_field(
         ≡ update stored.rid stored.version (put name.now (literal_of value.entry) stored.fields)) }
 {
     let mut fields = stored.fields;
-    fields.set(Text::from_str(alloc, name)?, written(alloc, value)?)?;
+    put_named(alloc, &mut fields, name, written(alloc, value)?)?;
     Ok(Change::Update {
         rid: stored.rid,
         version: stored.version,

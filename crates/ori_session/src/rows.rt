@@ -1,5 +1,6 @@
 // Records as rows.
 ghost use Rattle.std.specs.Prelude.{◌≡◌, ◌++◌, ◌∷◌, [], map, IfOk, OnOk};
+ghost use Rattle.ori_spec_data.specs.Fields.{put};
 ghost use Rattle.ori_spec_texts.specs.Statement as spec;
 ghost use Rattle.ori_value.specs.View.{tree_of};
 ghost use Rattle.ori_model.specs.Data.{record_of, change_of};
@@ -10,7 +11,7 @@ ghost use Rattle.ori_session.specs.Rows.{rows_as};
 use crate::hand::Literal;
 use ori_bytes::{NoMemory, Text};
 use ori_model::{Change, Row, RowList, Stored};
-use ori_value::Value;
+use ori_value::{FieldList, Value};
 use std::alloc::Global;
 
 // A whole number as the least kind that has it.
@@ -35,17 +36,32 @@ pub fn written(alloc: Global, literal: Literal<'_>) -> Result<Value, NoMemory>
     }
 }
 
+// Puts a value at a name.
+pub fn put_named(
+    alloc: Global,
+    fields: &mut FieldList,
+    name: &str,
+    value: Value,
+) -> Result<(), NoMemory>
+    ensures { OnOk result (fields.new ≡ put name.now (tree_of value) fields.old) }
+{
+    fields.set(Text::from_str(alloc, name)?, value)?;
+    Ok(())
+}
+
 // A record as a row.
 pub fn whole_row(alloc: Global, stored: Stored) -> Result<Row, NoMemory>
     ensures { IfOk result (λ r. row_of r ≡ spec.whole_row (record_of stored)) }
 {
     let mut columns = stored.fields;
-    columns.set(
-        Text::from_str(alloc, "@version")?,
+    put_named(
+        alloc,
+        &mut columns,
+        "@version",
         whole_number(stored.version),
     )?;
-    columns.set(Text::from_str(alloc, "@rid")?, Value::Link(stored.rid))?;
-    columns.set(Text::from_str(alloc, "@class")?, Value::Str(stored.class))?;
+    put_named(alloc, &mut columns, "@rid", Value::Link(stored.rid))?;
+    put_named(alloc, &mut columns, "@class", Value::Str(stored.class))?;
     Ok(Row { columns })
 }
 

@@ -1,6 +1,7 @@
 -- The history of a run is legal, and leads to the run's base.
-use Rattle.std.proofs.Common.{◌≡◌, List, [], ◌∷◌, ◌++◌, Option, Some, None, option_map, ℕ, inl, inr, refl, sym, ap}
-use Rattle.std.proofs.Common.{subst, ◌∙◌}
+use Rattle.std.proofs.Common.{◌≡◌, List, [], ◌∷◌, ◌++◌, Option, Some, None, option_map, IsSome, IfSome, ℕ, inl, inr}
+use Rattle.std.proofs.Common.{refl}
+use Rattle.std.proofs.Common.{sym, ap, subst, ◌∙◌}
 use Rattle.ori_spec_data.specs.Base.{BaseData, EntryData, AskedData, asks_commit, asks_define}
 use Rattle.ori_spec_data.specs.Apply.{apply, replay}
 use Rattle.ori_spec_data.specs.Asked.{IsAskable, refusal_of, entry_on}
@@ -16,7 +17,7 @@ use Rattle.ori_spec_texts.specs.Reply.{AnswerData}
 use Rattle.ori_spec_runs.specs.Answer.{SessionData, with_open, PendingData, one, whole, schema, asked_by, MeaningData}
 use Rattle.ori_spec_runs.specs.Answer.{answered, turned, pending, meaning}
 use Rattle.ori_spec_runs.specs.Run.{RunData, run_start, session_of, with_session, left_by, first_of, feed_cause}
-use Rattle.ori_spec_runs.specs.Run.{cause, Accepts, Fails, DecidesBy, Replies}
+use Rattle.ori_spec_runs.specs.Run.{cause, Accepts, Fails, DecidesBy, Replies, reopened, joined, Reopens}
 use Rattle.ori_spec_runs.specs.Run.{Tells, TellsOrNot, StepTells, Step, Run}
 use Rattle.ori_spec_data.proofs.Kept.{apply_sound}
 
@@ -34,19 +35,33 @@ replay_more base (f ∷ es) e = replay_more (apply base f) es e
 
 -- ---- along a run
 
--- the history is legal from a base on and leads to the base that the run has, which is sound
+-- an entry on a base is legal, and keeps it sound
+record IsSoundOn (base : BaseData) (e : EntryData) : Type 0 where
+  legal : IsLegalHistory base (e ∷ [])
+  sound : IsSoundBase (apply base e)
+
+-- The history is legal from a base on and leads to the base that the run has, which is sound. An entry in doubt would
+-- be legal, and commits have ended where one is.
 record IsLed (base : BaseData) (run : RunData) : Type 0 where
   legal : IsLegalHistory base run.history
   replayed : run.base ≡ replay base run.history
   sound : IsSoundBase run.base
+  doubted : IfSome run.doubt (IsSoundOn run.base)
+  ended : IsSome run.doubt → IsSome run.halted
 
 led_start : (found : FoundData) → IsSoundBase found.base → IsLed found.base (run_start found)
-led_start found sound = record { legal = tt; replayed = refl; sound = sound }
+led_start found sound =
+    record { legal = tt; replayed = refl; sound = sound; doubted = tt; ended = λ none. absurd (cc none) }
 
 led_session : (base : BaseData) (run : RunData) (session : ℕ) (kept : SessionData) → IsLed base run
     → IsLed base (with_session run session kept)
-led_session base run session kept led =
-    record { legal = led.legal; replayed = led.replayed; sound = led.sound }
+led_session base run session kept led = record {
+  legal = led.legal;
+  replayed = led.replayed;
+  sound = led.sound;
+  doubted = led.doubted;
+  ended = led.ended;
+}
 
 led_left : (base : BaseData) (run : RunData) (session : ℕ) (p : PendingData) → IsLed base run
     → IsLed base (left_by run session p)
@@ -65,17 +80,31 @@ none_by_base : (o : Option CommitRefusalData) → option_map by_base o ≡ None 
 none_by_base None h = refl
 none_by_base (Some why) h = absurd cc
 
-unrefused : (run : RunData) (asked : AskedData) → cause run asked ≡ None → refusal_of run.base asked ≡ None
+-- where nothing stands against what is asked, the base doesn't refuse it, and commits go on
+record IsUnrefused (run : RunData) (asked : AskedData) : Type 0 where
+  going : run.halted ≡ None
+  allowed : refusal_of run.base asked ≡ None
+
+none_halted : (o : Option ℕ) → option_map halted o ≡ None → o ≡ None
+none_halted None h = refl
+none_halted (Some at) h = absurd cc
+
+unrefused : (run : RunData) (asked : AskedData) → cause run asked ≡ None → IsUnrefused run asked
 unrefused run asked h =
     let later = first_none (option_map halted run.halted) _ h in
     let base = first_none (feed_cause run.feed asked) _ later.1 in
-    none_by_base (refusal_of run.base asked)
-    (first_none (option_map by_base (refusal_of run.base asked)) (limit_cause run.limit run.base asked) base.1).0
+    record {
+      going = none_halted run.halted later.0;
+      allowed = none_by_base (refusal_of run.base asked)
+          (first_none (option_map by_base (refusal_of run.base asked)) (limit_cause run.limit run.base asked) base.1).0;
+    }
 
--- an entry on a base is legal, and keeps it sound
-record IsSoundOn (base : BaseData) (e : EntryData) : Type 0 where
-  legal : IsLegalHistory base (e ∷ [])
-  sound : IsSoundBase (apply base e)
+-- nothing is in doubt while commits go on
+no_doubt : (doubt : Option EntryData) (ended : Option ℕ) → (IsSome doubt → IsSome ended) → ended ≡ None
+    → doubt ≡ None
+no_doubt None ended over going = refl
+no_doubt (Some e) ended over going =
+    absurd (cc (subst (λ (o : Option ℕ). IsSome o) going (over refl)))
 
 sound_on : (base : BaseData) (session : ℕ) (asked : AskedData) → IsSoundBase base → IsAskable asked
     → refusal_of base asked ≡ None → IsSoundOn base (entry_on base session asked)
@@ -85,29 +114,89 @@ sound_on base session (asks_define definition) sound none free = absurd none
 
 module _ (base : BaseData) (old new : RunData) (session : ℕ) (p : PendingData) (reply : ReplyData)
     (led : IsLed base old) (askable : IsAskable (asked_by p)) where
-  led_accepted : refusal_of old.base (asked_by p) ≡ None
-      → Accepts old session p (entry_on old.base session (asked_by p)) reply new → IsLed base new
+  abbrev Entry : EntryData
+  Entry = entry_on old.base session (asked_by p)
+
+  left_doubt : (q : PendingData) → (left_by old session q).doubt ≡ old.doubt
+  left_doubt (one plan) = refl
+  left_doubt (whole tx) = refl
+  left_doubt (schema definition) = refl
+
+  led_accepted : IsUnrefused old (asked_by p) → Accepts old session p Entry reply new → IsLed base new
   led_accepted free a =
-      let e = entry_on old.base session (asked_by p) in
-      let on = sound_on old.base session (asked_by p) led.sound askable free in
+      let on = sound_on old.base session (asked_by p) led.sound askable free.allowed in
+      let none : (left_by old session p).doubt ≡ None =
+      left_doubt p ∙ no_doubt old.doubt old.halted led.ended free.going in
       subst (IsLed base) (sym a.new_is) (record {
-        legal = legal_more base old.history e led.legal
-            (subst (λ b. IsLegalHistory b (e ∷ [])) led.replayed on.legal);
-        replayed = ap (λ b. apply b e) led.replayed ∙ sym (replay_more base old.history e);
+        legal = legal_more base old.history Entry led.legal
+            (subst (λ b. IsLegalHistory b (Entry ∷ [])) led.replayed on.legal);
+        replayed = ap (λ b. apply b Entry) led.replayed ∙ sym (replay_more base old.history Entry);
         sound = on.sound;
+        doubted = subst (λ (d : Option EntryData). IfSome d (IsSoundOn (apply old.base Entry))) (sym none) tt;
+        ended = λ some. absurd (cc (subst (λ (d : Option EntryData). IsSome d) none some));
       })
 
-  led_failed : (entry : EntryData) → Fails old session p entry reply new → IsLed base new
-  led_failed entry f =
+  led_failed : IsUnrefused old (asked_by p) → Fails old session p Entry reply new → IsLed base new
+  led_failed free f =
       let left = led_left base old session p led in
-      subst (IsLed base) (sym f.new_is)
-      (record { legal = left.legal; replayed = left.replayed; sound = left.sound })
+      let on = sound_on old.base session (asked_by p) led.sound askable free.allowed in
+      subst (IsLed base) (sym f.new_is) (record {
+        legal = left.legal;
+        replayed = left.replayed;
+        sound = left.sound;
+        doubted = elim f.doubt_is [
+          | inl same ↦ doubt_on
+              (subst (λ (d : Option EntryData). IfSome d (IsSoundOn old.base)) (sym same.0) led.doubted)
+          | inr own ↦ doubt_on (subst (λ (d : Option EntryData). IfSome d (IsSoundOn old.base)) (sym own.0) on)
+        ];
+        ended = elim f.doubt_is [
+          | inl same ↦ λ some. subst (λ (o : Option ℕ). IsSome o) (sym same.1)
+              (led.ended (subst (λ (d : Option EntryData). IsSome d) same.0 some))
+          | inr own ↦ λ some. own.1
+        ];
+      })
+    where
+      -- the base is the same behind a transaction that ended
+      left_base : (q : PendingData) → (left_by old session q).base ≡ old.base
+      left_base (one plan) = refl
+      left_base (whole tx) = refl
+      left_base (schema definition) = refl
+
+      doubt_on : IfSome f.left_open (IsSoundOn old.base) → IfSome f.left_open (IsSoundOn (left_by old session p).base)
+      doubt_on h = subst (λ b. IfSome f.left_open (IsSoundOn b)) (sym (left_base p)) h
 
   led_decided : (why : Option RefusalData) → cause old (asked_by p) ≡ why → DecidesBy old session p why reply new
       → IsLed base new
   led_decided (Some why) e d = subst (IsLed base) (sym d.1) (led_left base old session p led)
   led_decided None e (inl a) = led_accepted (unrefused old (asked_by p) e) a
-  led_decided None e (inr f) = led_failed (entry_on old.base session (asked_by p)) f
+  led_decided None e (inr f) = led_failed (unrefused old (asked_by p) e) f
+
+-- ---- a reopening
+
+module _ (base : BaseData) (old : RunData) (led : IsLed base old) where
+  led_reopened : IsLed base (reopened old)
+  led_reopened = record {
+    legal = led.legal;
+    replayed = led.replayed;
+    sound = led.sound;
+    doubted = tt;
+    ended = λ none. absurd (cc none);
+  }
+
+  led_joined : (e : EntryData) → IsSoundOn old.base e → IsLed base (joined (reopened old) e)
+  led_joined e on = record {
+    legal = legal_more base old.history e led.legal (subst (λ b. IsLegalHistory b (e ∷ [])) led.replayed on.legal);
+    replayed = ap (λ b. apply b e) led.replayed ∙ sym (replay_more base old.history e);
+    sound = on.sound;
+    doubted = tt;
+    ended = λ none. absurd (cc none);
+  }
+
+  led_by : (doubt : Option EntryData) (new : RunData) → IfSome doubt (IsSoundOn old.base) → Reopens old doubt new
+      → IsLed base new
+  led_by None new on is = subst (IsLed base) (sym is) led_reopened
+  led_by (Some e) new on (inl is) = subst (IsLed base) (sym is) led_reopened
+  led_by (Some e) new on (inr is) = subst (IsLed base) (sym is) (led_joined e on)
 
 -- ---- lines
 
@@ -138,7 +227,7 @@ module _ (base : BaseData) (old : RunData) (led : IsLed base old) where
   led_step new (flush part) answer s = led_same new s.1
   led_step new settle answer s = led_same new s.1
   led_step new checkpoint answer s = led_same new s.1
-  led_step new reopen answer s = led_same new s.1
+  led_step new reopen answer s = led_by base old led old.doubt new led.doubted s.1
   led_step new history answer s = led_same new s.1
   led_step new (bag vertex dir class) answer s = led_same new s.1
   led_step new check answer s = led_same new s.1

@@ -4,7 +4,7 @@ use Rattle.std.specs.Prelude.{replicate, get_or, set, Option, Some, None, option
 use Rattle.ori_bytes.specs.declared.rid.Rid.{Rid}
 use Rattle.ori_bytes.specs.declared.limits.TheConstants.{MAX_FEED_ENTRIES, MAX_FEED_BYTES, MAX_SESSIONS}
 use Rattle.ori_spec_data.specs.Value.{Fields}
-use Rattle.ori_spec_data.specs.Base.{BaseData, EntryData, AskedData}
+use Rattle.ori_spec_data.specs.Base.{BaseData, EntryData, AskedData, asked_in}
 use Rattle.ori_spec_data.specs.Apply.{renamings, apply}
 use Rattle.ori_spec_data.specs.Asked.{IsAskable, refusal_of, fresh_by, entry_on}
 use Rattle.ori_spec_data.specs.Limits.{FoundData, limit_after, limit_cause}
@@ -15,7 +15,7 @@ use Rattle.ori_spec_data.specs.Replies.{ReplyData, refused, granted}
 use Rattle.ori_spec_texts.specs.Statement.{StatementData, IsStatement, rows_at}
 use Rattle.ori_spec_texts.specs.Line.{LineData, statement, tries, step, StepData, flush, settle, checkpoint, reopen}
 use Rattle.ori_spec_texts.specs.Line.{history, bag, check}
-use Rattle.ori_spec_texts.specs.Reply.{AnswerData, to_session, to_history, to_step}
+use Rattle.ori_spec_texts.specs.Reply.{AnswerData, to_session, to_history, to_step, to_done}
 use Rattle.ori_spec_crash.specs.Crash.{doubts}
 use Rattle.ori_spec_runs.specs.Answer.{SessionData, with_open, closed, PendingData, one, whole, schema, asked_by}
 use Rattle.ori_spec_runs.specs.Answer.{MeaningData, answered, turned, pending, meaning}
@@ -149,15 +149,45 @@ Tells old session text reply new =
 abbrev pub TellsOrNot : RunData → ℕ → List ℕ → ReplyData → RunData → Type 0
 TellsOrNot old session text reply new = Tells old session text reply new ⊎ ((reply ≡ refused no_memory) × (new ≡ old))
 
+-- ---- reopenings
+
+-- What is left after a reopening: no session has anything open, no entry has joined since, nothing is in doubt, and
+-- commits go on. An entry that was in doubt is one of those whose fate an opening has decided, whichever it was.
+abbrev pub reopened : RunData → RunData
+reopened run = record run {
+  feed = [];
+  failed = doubtful run;
+  doubt = None;
+  halted = None;
+  sessions = replicate MAX_SESSIONS closed;
+}
+
+-- The entry was found: it joins the history, and the base and the log's room follow.
+abbrev pub joined : RunData → EntryData → RunData
+joined run entry = record run {
+  base = apply run.base entry;
+  history = run.history ++ entry ∷ [];
+  limit = limit_after run.base (asked_in entry) run.limit;
+}
+
+-- The entry in doubt is found or not. Where none is in doubt, the base and the history are as before.
+abbrev pub Reopens : RunData → Option EntryData → RunData → Type 0
+Reopens old None new = new ≡ reopened old
+Reopens old (Some entry) new = (new ≡ reopened old) ⊎ (new ≡ joined (reopened old) entry)
+
+-- ---- steps
+
 -- a step of the store: its answer, and what it leaves
 abbrev pub StepTells : RunData → StepData → AnswerData → RunData → Type 0
 StepTells old (flush part) answer new = (answer ≡ to_step unbuilt) × (new ≡ old)
 StepTells old settle answer new = (answer ≡ to_step unbuilt) × (new ≡ old)
 StepTells old checkpoint answer new = (answer ≡ to_step unbuilt) × (new ≡ old)
-StepTells old reopen answer new = (answer ≡ to_step unbuilt) × (new ≡ old)
+StepTells old reopen answer new = (answer ≡ to_done) × Reopens old old.doubt new
 StepTells old history answer new = (answer ≡ to_history old.history) × (new ≡ old)
 StepTells old (bag vertex dir class) answer new = (answer ≡ to_step unbuilt) × (new ≡ old)
 StepTells old check answer new = (answer ≡ to_step unbuilt) × (new ≡ old)
+
+-- ---- runs
 
 -- One line, its answer and what it leaves. A statement that is to be tried several times can't be run yet.
 abbrev pub Step : RunData → LineData → AnswerData → RunData → Type 0

@@ -1,5 +1,5 @@
 -- A history that stands in two lists is printed as their entries one after the other.
-use Rattle.std.proofs.Common.{◌≡◌, ℕ, ◌+◌, List, [], ◌∷◌, ◌++◌, length, map, codes, decimal, refl, ap, sym, ◌∙◌, arith}
+use Rattle.std.proofs.Common.{◌≡◌, ℕ, ◌+◌, List, [], ◌∷◌, ◌++◌, length, codes, decimal, refl, ap, sym, ◌∙◌, arith}
 use Rattle.std.proofs.lemmas.List.{append_assoc, length-append, length-map}
 use Rattle.ori_spec_data.specs.Base.{EntryData}
 use Rattle.ori_spec_texts.specs.Reply.{entry_text, entries_text, history_text}

@@ -12,3 +12,4 @@ mod StepLemmas
 mod Promptness
 mod JsonLists
 pub mod Histories
+mod Printed

@@ -9,19 +9,19 @@ ghost use Rattle.ori_model.specs.Data.{change_of, entry_of, entries_of};
 use crate::json::rid_string;
 use ori_bytes::{NoMemory, Rid, Text};
 use ori_model::{Change, Entry};
-use std::alloc::Global;
+use std::alloc::{AllocError, Global};
 
 // A record that was updated or touched, with the version that it got.
-fn newer_string(alloc: Global, rid: Rid, version: u32) -> Result<String, NoMemory>
+fn newer_string(alloc: Global, rid: Rid, version: u32) -> Result<String, AllocError>
     ensures { IfOk result (λ s. string_bytes s ≡ codes " ~" ++ rid_text rid ++ 64 ∷ decimal (version + 1)) }
 {
     let rid = rid_string(alloc, rid)?;
     let version = u64::from(version) + 1;
-    Ok(format!(in alloc; " ~{rid}@{version}")?)
+    format!(in alloc; " ~{rid}@{version}")
 }
 
 // A change, where the new records from this one on got these identifiers.
-fn change_string(alloc: Global, change: &Change, fresh: &[Rid]) -> Result<String, NoMemory>
+fn change_string(alloc: Global, change: &Change, fresh: &[Rid]) -> Result<String, AllocError>
     ensures { IfOk result (λ s. string_bytes s ≡ change_text (change_of change.now) fresh.now) }
 {
     match change {
@@ -34,8 +34,8 @@ fn change_string(alloc: Global, change: &Change, fresh: &[Rid]) -> Result<String
         },
         Change::Update { rid, version, .. } => newer_string(alloc, *rid, *version),
         Change::Delete { rid, .. } => {
-            let rid = rid_string(alloc, *rid)?;
-            Ok(format!(in alloc; " -{rid}")?)
+            let Rid { cluster, position } = *rid;
+            format!(in alloc; " -#{cluster}:{position}")
         }
         Change::Touch { rid, version } => newer_string(alloc, *rid, *version),
     }
@@ -57,7 +57,7 @@ fn rids_behind<'a>(change: &Change, fresh: &'a [Rid]) -> &'a [Rid]
 }
 
 // The changes of a commit, whose new records got these identifiers.
-fn changes_string(alloc: Global, changes: &[Change], fresh: &[Rid]) -> Result<String, NoMemory>
+fn changes_string(alloc: Global, changes: &[Change], fresh: &[Rid]) -> Result<String, AllocError>
     ensures { IfOk result (λ s. string_bytes s ≡ changes_text (map change_of changes.now) fresh.now) }
 {
     let mut text = String::new(alloc);
@@ -70,7 +70,7 @@ fn changes_string(alloc: Global, changes: &[Change], fresh: &[Rid]) -> Result<St
 }
 
 // An entry.
-fn entry_string(alloc: Global, entry: &Entry) -> Result<String, NoMemory>
+fn entry_string(alloc: Global, entry: &Entry) -> Result<String, AllocError>
     ensures { IfOk result (λ s. string_bytes s ≡ entry_text (entry_of entry.now)) }
 {
     match entry {
@@ -78,17 +78,17 @@ fn entry_string(alloc: Global, entry: &Entry) -> Result<String, NoMemory>
             let changes = changes_string(alloc, tx.changes.as_slice(), fresh.as_slice())?;
             Ok(format!(in alloc; "{session} COMMIT{changes}")?)
         }
-        Entry::Define { session, .. } => Ok(format!(in alloc; "{session} DEFINE")?),
+        Entry::Define { session, .. } => format!(in alloc; "{session} DEFINE"),
     }
 }
 
 // The line of an entry at its place.
-fn entry_line(alloc: Global, place: usize, entry: &Entry) -> Result<String, NoMemory>
+fn entry_line(alloc: Global, place: usize, entry: &Entry) -> Result<String, AllocError>
     ensures { IfOk result (λ s.
         string_bytes s ≡ codes "! HISTORY " ++ decimal place ++ 32 ∷ entry_text (entry_of entry.now) ++ 10 ∷ []) }
 {
     let entry = entry_string(alloc, entry)?;
-    Ok(format!(in alloc; "! HISTORY {place} {entry}\n")?)
+    format!(in alloc; "! HISTORY {place} {entry}\n")
 }
 
 // Adds the lines of entries, the first of which has this place.
@@ -97,7 +97,7 @@ fn put_entries(
     text: &mut String,
     first: usize,
     entries: &[Entry],
-) -> Result<(), NoMemory>
+) -> Result<(), AllocError>
     requires { first + length entries.now < 2 ^ 64 }
     ensures { OnOk result (string_bytes text.new ≡ string_bytes text.old
         ++ entries_text first (entries_of entries.now)) }

@@ -21,15 +21,14 @@ use ori_bytes::{Blob, NoMemory, Rid, Text};
 use ori_model::Row;
 use ori_value::{FieldList, RidFieldList, Value, ValueList};
 use serde_json::{Map, Value as Json};
-use std::alloc::Global;
+use std::alloc::{AllocError, Global};
 
 // A record identifier as text.
-pub fn rid_string(alloc: Global, rid: Rid) -> Result<String, NoMemory>
+pub(crate) fn rid_string(alloc: Global, rid: Rid) -> Result<String, AllocError>
     ensures { IfOk result (λ s. string_bytes s ≡ rid_text rid) }
 {
-    let cluster = rid.cluster;
-    let position = rid.position;
-    Ok(format!(in alloc; "#{cluster}:{position}")?)
+    let Rid { cluster, position } = rid;
+    format!(in alloc; "#{cluster}:{position}")
 }
 
 // The digit of a number below 16.
@@ -45,17 +44,16 @@ fn hex_digit(value: u8) -> char
 }
 
 // Adds the two digits of a byte.
-fn put_hex(text: &mut String, byte: u8) -> Result<(), NoMemory>
+fn put_hex(text: &mut String, byte: u8) -> Result<(), AllocError>
     ensures { OnOk result (string_bytes text.new
         ≡ string_bytes text.old ++ digit_char (byte / 16) ∷ digit_char (byte % 16) ∷ []) }
 {
     text.push(hex_digit(byte / 16))?;
-    text.push(hex_digit(byte % 16))?;
-    Ok(())
+    text.push(hex_digit(byte % 16))
 }
 
 // Bytes in hexadecimal.
-fn hex_string(alloc: Global, bytes: &[u8]) -> Result<String, NoMemory>
+fn hex_string(alloc: Global, bytes: &[u8]) -> Result<String, AllocError>
     ensures { IfOk result (λ s. string_bytes s ≡ hex bytes.now) }
 {
     let mut text = String::new(alloc);
@@ -66,28 +64,28 @@ fn hex_string(alloc: Global, bytes: &[u8]) -> Result<String, NoMemory>
 }
 
 // A text as JSON.
-fn text_json(alloc: Global, text: &Text) -> Result<Json, NoMemory>
+fn text_json(alloc: Global, text: &Text) -> Result<Json, AllocError>
     ensures { IfOk result (λ j. view j ≡ string text.now) }
 {
     Ok(Json::from(String::from_str(alloc, text.as_str())?))
 }
 
 // Bytes as JSON.
-fn binary_json(alloc: Global, bytes: &Blob) -> Result<Json, NoMemory>
+fn binary_json(alloc: Global, bytes: &Blob) -> Result<Json, AllocError>
     ensures { IfOk result (λ j. view j ≡ string (hex bytes.now)) }
 {
     Ok(Json::from(hex_string(alloc, bytes.as_slice())?))
 }
 
 // An identifier as JSON.
-fn rid_json(alloc: Global, rid: Rid) -> Result<Json, NoMemory>
+fn rid_json(alloc: Global, rid: Rid) -> Result<Json, AllocError>
     ensures { IfOk result (λ j. view j ≡ string (rid_text rid)) }
 {
     Ok(Json::from(rid_string(alloc, rid)?))
 }
 
 // Identifiers as an array.
-fn rids_json(alloc: Global, rids: &[Rid]) -> Result<Json, NoMemory>
+fn rids_json(alloc: Global, rids: &[Rid]) -> Result<Json, AllocError>
     ensures { IfOk result (λ j. view j ≡ array (rids_items rids.now)) }
 {
     let mut items = Vec::with_capacity(alloc, rids.len())?;
@@ -103,7 +101,7 @@ fn put_member(
     members: &mut Map<String, Json>,
     name: &str,
     value: Json,
-) -> Result<(), NoMemory>
+) -> Result<(), AllocError>
     ensures { OnOk result (members_view members.new.entries
         ≡ put name.now (view value) (members_view members.old.entries)) }
 {
@@ -113,7 +111,7 @@ fn put_member(
 }
 
 // Names and identifiers as an object.
-fn links_json(alloc: Global, links: &RidFieldList) -> Result<Json, NoMemory>
+fn links_json(alloc: Global, links: &RidFieldList) -> Result<Json, AllocError>
     ensures { IfOk result (λ j. view j ≡ object (links_members links.now)) }
 {
     let pairs = links.as_slice();
@@ -127,7 +125,7 @@ fn links_json(alloc: Global, links: &RidFieldList) -> Result<Json, NoMemory>
 }
 
 // Puts a document's class among its members, unless it has none.
-fn put_class(alloc: Global, members: &mut Map<String, Json>, class: &str) -> Result<(), NoMemory>
+fn put_class(alloc: Global, members: &mut Map<String, Json>, class: &str) -> Result<(), AllocError>
     ensures { OnOk result (members_view members.new.entries
         ≡ with_class class.now (members_view members.old.entries)) }
 {
@@ -140,7 +138,7 @@ fn put_class(alloc: Global, members: &mut Map<String, Json>, class: &str) -> Res
 
 // A value as JSON.
 #[cycle(jsons)]
-fn json_value(alloc: Global, value: &Value) -> Result<Json, NoMemory>
+fn json_value(alloc: Global, value: &Value) -> Result<Json, AllocError>
     ensures { IfOk result (λ j. view j ≡ json_of (tree_of value.now)) }
 {
     match value {
@@ -167,7 +165,7 @@ fn json_value(alloc: Global, value: &Value) -> Result<Json, NoMemory>
 
 // Values as an array.
 #[cycle(jsons)]
-fn array_json(alloc: Global, values: &ValueList) -> Result<Json, NoMemory>
+fn array_json(alloc: Global, values: &ValueList) -> Result<Json, AllocError>
     ensures { IfOk result (λ j. view j ≡ array (trees_items values.now)) }
 {
     let all = values.as_slice();
@@ -180,7 +178,7 @@ fn array_json(alloc: Global, values: &ValueList) -> Result<Json, NoMemory>
 
 // A class, which may be empty, and fields as an object.
 #[cycle(jsons)]
-fn object_json(alloc: Global, class: &str, fields: &FieldList) -> Result<Json, NoMemory>
+fn object_json(alloc: Global, class: &str, fields: &FieldList) -> Result<Json, AllocError>
     ensures { IfOk result (λ j. view j ≡ object (with_class class.now (fields_members fields.now))) }
 {
     let mut members = field_members(alloc, fields)?;
@@ -190,7 +188,7 @@ fn object_json(alloc: Global, class: &str, fields: &FieldList) -> Result<Json, N
 
 // Fields as the members of an object.
 #[cycle(jsons)]
-fn field_members(alloc: Global, fields: &FieldList) -> Result<Map<String, Json>, NoMemory>
+fn field_members(alloc: Global, fields: &FieldList) -> Result<Map<String, Json>, AllocError>
     ensures { IfOk result (λ m. members_view m.entries ≡ fields_members fields.now) }
 {
     let pairs = fields.as_slice();

@@ -8,53 +8,53 @@ ghost use Rattle.ori_model.specs.Data.{rule_of};
 ghost use Rattle.ori_model.specs.Replies.{refusal_of};
 
 use crate::json::rid_string;
-use ori_bytes::{NoMemory, Rid, Text};
+use ori_bytes::{Rid, Text};
 use ori_model::{Refusal, Rule};
-use std::alloc::Global;
+use std::alloc::{AllocError, Global};
 
 // A word alone.
-fn bare(alloc: Global, word: &str) -> Result<String, NoMemory>
+fn bare(alloc: Global, word: &str) -> Result<String, AllocError>
     ensures { IfOk result (λ s. string_bytes s ≡ word.now) }
 {
-    Ok(String::from_str(alloc, word)?)
+    String::from_str(alloc, word)
 }
 
 // A word and a number.
-fn counted(alloc: Global, word: &str, count: u64) -> Result<String, NoMemory>
+fn counted(alloc: Global, word: &str, count: u64) -> Result<String, AllocError>
     ensures { IfOk result (λ s. string_bytes s ≡ word.now ++ 32 ∷ decimal count) }
 {
-    Ok(format!(in alloc; "{word} {count}")?)
+    format!(in alloc; "{word} {count}")
 }
 
 // A word and two numbers.
-fn counted_twice(alloc: Global, word: &str, first: u64, second: u64) -> Result<String, NoMemory>
+fn counted_twice(alloc: Global, word: &str, first: u64, second: u64) -> Result<String, AllocError>
     ensures { IfOk result (λ s. string_bytes s ≡ word.now ++ 32 ∷ decimal first ++ 32 ∷ decimal second) }
 {
-    Ok(format!(in alloc; "{word} {first} {second}")?)
+    format!(in alloc; "{word} {first} {second}")
 }
 
 // A word and a name.
-fn named(alloc: Global, word: &str, name: &Text) -> Result<String, NoMemory>
+fn named(alloc: Global, word: &str, name: &Text) -> Result<String, AllocError>
     ensures { IfOk result (λ s. string_bytes s ≡ word.now ++ 32 ∷ name.now) }
 {
     let name = name.as_str();
-    Ok(format!(in alloc; "{word} {name}")?)
+    format!(in alloc; "{word} {name}")
 }
 
 // The identifier of a record that isn't there.
-fn no_record(alloc: Global, rid: Rid) -> Result<String, NoMemory>
+fn no_record(alloc: Global, rid: Rid) -> Result<String, AllocError>
     ensures { IfOk result (λ s. string_bytes s ≡ codes "NoRecord " ++ rid_text rid) }
 {
-    let rid = rid_string(alloc, rid)?;
-    Ok(format!(in alloc; "NoRecord {rid}")?)
+    let Rid { cluster, position } = rid;
+    format!(in alloc; "NoRecord #{cluster}:{position}")
 }
 
-fn found_string(alloc: Global, found: Option<u32>) -> Result<String, NoMemory>
+fn found_string(alloc: Global, found: Option<u32>) -> Result<String, AllocError>
     ensures { IfOk result (λ s. string_bytes s ≡ found_text found) }
 {
     match found {
-        Some(version) => Ok(format!(in alloc; "{version}")?),
-        None => Ok(String::from_str(alloc, "none")?),
+        Some(version) => format!(in alloc; "{version}"),
+        None => String::from_str(alloc, "none"),
     }
 }
 
@@ -75,55 +75,60 @@ fn rule_word(rule: Rule) -> &'static str
     }
 }
 
-fn conflict(alloc: Global, rid: Rid, expected: u32, found: Option<u32>) -> Result<String, NoMemory>
+fn conflict(
+    alloc: Global,
+    rid: Rid,
+    expected: u32,
+    found: Option<u32>,
+) -> Result<String, AllocError>
     ensures { IfOk result (λ s. string_bytes s ≡ commit_refusal_text (why.conflict rid expected found)) }
 {
     let rid = rid_string(alloc, rid)?;
     let found = found_string(alloc, found)?;
-    Ok(format!(in alloc; "Conflict {rid} expected {expected} found {found}")?)
+    format!(in alloc; "Conflict {rid} expected {expected} found {found}")
 }
 
-fn schema(alloc: Global, rid: Rid, property: &Text, rule: Rule) -> Result<String, NoMemory>
+fn schema(alloc: Global, rid: Rid, property: &Text, rule: Rule) -> Result<String, AllocError>
     ensures { IfOk result (λ s. string_bytes s ≡ commit_refusal_text (why.breaks rid property.now (rule_of rule))) }
 {
     let rid = rid_string(alloc, rid)?;
     let property = property.as_str();
     let rule = rule_word(rule);
-    Ok(format!(in alloc; "Schema {rid} {property} {rule}")?)
+    format!(in alloc; "Schema {rid} {property} {rule}")
 }
 
-fn record_too_large(alloc: Global, rid: Rid, bytes: u64) -> Result<String, NoMemory>
+fn record_too_large(alloc: Global, rid: Rid, bytes: u64) -> Result<String, AllocError>
     ensures { IfOk result (λ s. string_bytes s ≡ commit_refusal_text (why.record_too_large rid bytes)) }
 {
     let rid = rid_string(alloc, rid)?;
-    Ok(format!(in alloc; "RecordTooLarge {rid} {bytes}")?)
+    format!(in alloc; "RecordTooLarge {rid} {bytes}")
 }
 
-fn key_too_long(alloc: Global, index: &Text, rid: Rid, bytes: u64) -> Result<String, NoMemory>
+fn key_too_long(alloc: Global, index: &Text, rid: Rid, bytes: u64) -> Result<String, AllocError>
     ensures { IfOk result (λ s. string_bytes s ≡ commit_refusal_text (why.key_too_long index.now rid bytes)) }
 {
     let index = index.as_str();
     let rid = rid_string(alloc, rid)?;
-    Ok(format!(in alloc; "KeyTooLong {index} {rid} {bytes}")?)
+    format!(in alloc; "KeyTooLong {index} {rid} {bytes}")
 }
 
-fn duplicate(alloc: Global, index: &Text, first: Rid, second: Rid) -> Result<String, NoMemory>
+fn duplicate(alloc: Global, index: &Text, first: Rid, second: Rid) -> Result<String, AllocError>
     ensures { IfOk result (λ s. string_bytes s ≡ commit_refusal_text (why.duplicate index.now first second)) }
 {
     let index = index.as_str();
     let first = rid_string(alloc, first)?;
     let second = rid_string(alloc, second)?;
-    Ok(format!(in alloc; "Duplicate {index} {first} {second}")?)
+    format!(in alloc; "Duplicate {index} {first} {second}")
 }
 
-fn cluster_full(alloc: Global, cluster: i16) -> Result<String, NoMemory>
+fn cluster_full(alloc: Global, cluster: i16) -> Result<String, AllocError>
     ensures { IfOk result (λ s. string_bytes s ≡ commit_refusal_text (why.cluster_full cluster)) }
 {
-    Ok(format!(in alloc; "ClusterFull {cluster}")?)
+    format!(in alloc; "ClusterFull {cluster}")
 }
 
 // Why a statement was refused.
-pub(crate) fn refusal_string(alloc: Global, refusal: &Refusal) -> Result<String, NoMemory>
+pub(crate) fn refusal_string(alloc: Global, refusal: &Refusal) -> Result<String, AllocError>
     ensures { IfOk result (λ s. string_bytes s ≡ refusal_text (refusal_of refusal.now)) }
 {
     match refusal {

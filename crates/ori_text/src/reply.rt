@@ -10,21 +10,21 @@ use crate::json::{rid_string, row_json};
 use crate::refusal::refusal_string;
 use ori_bytes::{NoMemory, Rid, Text};
 use ori_model::{Refusal, Reply, Row, Told};
-use std::alloc::Global;
+use std::alloc::{AllocError, Global};
 
 // The line of a row.
 fn row_line(alloc: Global, session: u8, row: &Row) -> Result<String, NoMemory>
     ensures { IfOk result (λ s. string_bytes s ≡ spec.row_line session (row_of row.now)) }
 {
     let json = row_json(alloc, row)?;
-    json_line(alloc, session, json.as_str())
+    Ok(json_line(alloc, session, json.as_str())?)
 }
 
 // The line of a row that is this as JSON.
-fn json_line(alloc: Global, session: u8, json: &str) -> Result<String, NoMemory>
+fn json_line(alloc: Global, session: u8, json: &str) -> Result<String, AllocError>
     ensures { IfOk result (λ s. string_bytes s ≡ decimal session ++ codes " ROW " ++ json.now ++ 10 ∷ []) }
 {
-    Ok(format!(in alloc; "{session} ROW {json}\n")?)
+    format!(in alloc; "{session} ROW {json}\n")
 }
 
 // The lines of rows.
@@ -39,16 +39,16 @@ fn row_lines(alloc: Global, session: u8, rows: &[Row]) -> Result<String, NoMemor
 }
 
 // The line of a temporary identifier and the one that it became.
-fn temp_line(alloc: Global, session: u8, pair: (Rid, Rid)) -> Result<String, NoMemory>
+fn temp_line(alloc: Global, session: u8, pair: (Rid, Rid)) -> Result<String, AllocError>
     ensures { IfOk result (λ s. string_bytes s ≡ spec.temp_line session pair) }
 {
     let temp = rid_string(alloc, pair.0)?;
     let real = rid_string(alloc, pair.1)?;
-    Ok(format!(in alloc; "{session} TEMP {temp} {real}\n")?)
+    format!(in alloc; "{session} TEMP {temp} {real}\n")
 }
 
 // The lines of such pairs.
-fn temp_lines(alloc: Global, session: u8, temps: &[(Rid, Rid)]) -> Result<String, NoMemory>
+fn temp_lines(alloc: Global, session: u8, temps: &[(Rid, Rid)]) -> Result<String, AllocError>
     ensures { IfOk result (λ s. string_bytes s ≡ flat_map (spec.temp_line session) temps.now) }
 {
     let mut text = String::new(alloc);
@@ -59,25 +59,25 @@ fn temp_lines(alloc: Global, session: u8, temps: &[(Rid, Rid)]) -> Result<String
 }
 
 // What a reply says at its end.
-fn told_string(alloc: Global, told: &Told) -> Result<String, NoMemory>
+fn told_string(alloc: Global, told: &Told) -> Result<String, AllocError>
     ensures { IfOk result (λ s. string_bytes s ≡ told_text (told_of told.now)) }
 {
     match told {
-        Ok(count) => Ok(format!(in alloc; "OK {count}")?),
+        Ok(count) => format!(in alloc; "OK {count}"),
         Err(refusal) => {
             let why = refusal_string(alloc, refusal)?;
-            Ok(format!(in alloc; "ERR {why}")?)
+            format!(in alloc; "ERR {why}")
         }
     }
 }
 
 // The fronts of a read and of a commit.
-fn fronts_string(alloc: Global, read: u64, commit: Option<u64>) -> Result<String, NoMemory>
+fn fronts_string(alloc: Global, read: u64, commit: Option<u64>) -> Result<String, AllocError>
     ensures { IfOk result (λ s. string_bytes s ≡ fronts_text read commit) }
 {
     match commit {
         Some(commit) => Ok(format!(in alloc; " @{read} @{commit}")?),
-        None => Ok(format!(in alloc; " @{read}")?),
+        None => format!(in alloc; " @{read}"),
     }
 }
 
@@ -87,10 +87,10 @@ fn ended_text(alloc: Global, session: u8, reply: &Reply, fronts: &str) -> Result
         ++ flat_map (spec.temp_line session) (reply_of reply.now).temps
         ++ decimal session ++ 32 ∷ told_text (reply_of reply.now).told ++ fronts.now ++ 10 ∷ []) }
 {
-    let mut text = row_lines(alloc, session, reply.rows.as_slice())?;
+    let rows = row_lines(alloc, session, reply.rows.as_slice())?;
     let temps = temp_lines(alloc, session, reply.temps.as_slice())?;
     let told = told_string(alloc, &reply.told)?;
-    text.push_str(format!(in alloc; "{temps}{session} {told}{fronts}\n")?.as_str())?;
+    let text = format!(in alloc; "{rows}{temps}{session} {told}{fronts}\n")?;
     Ok(Text::from_string(text))
 }
 

@@ -18,7 +18,7 @@ use Rattle.ori_pool.specs.Devices.{HaltsTend}
 use Rattle.ori_pool.specs.Finishes.{Checkpoints, FinishesOn, Finished}
 use Rattle.ori_pool.specs.Held.{dirty_with, HaveNoMore}
 use Rattle.ori_turns.specs.Seats.{Seat, held_part}
-use Rattle.ori_turns.specs.Caches.{Cache, GivesCache, Opened, OnlyHeld}
+use Rattle.ori_turns.specs.Caches.{Cache, GivesCache, Opened, OnlyHeld, SamePages}
 use Rattle.ori_turns.specs.Checkpointed.{WasCheckpointed, IfMade}
 use Rattle.ori_turns.specs.Hands.{HandIs, IsHandOf}
 use Rattle.ori_turns.proofs.Marking.{only_same}
@@ -142,6 +142,16 @@ module _ {D : Type 0} (seat : Seat D) (engine : seat.engine ≡ true) (cache : C
   abbrev After : {T : Type 0} → Result T TendFault → Option Log → Option ℕ → Option Story → Option Files → Type 0
   After done log halted t g = (now : Cache) × (now.pages ≡ cache.pages) × OnlyHeld seat cache now
       × GivesCache log halted t g now × HandIs now new × OnOk done (WasCheckpointed now)
+      × OnErr done (SamePages cache now)
+
+  same_pages : {T : Type 0} (done : Result T TendFault) → cache.doubt ≡ cache.pages
+      → OnErr done (SamePages cache (checkpointed done cache new))
+  same_pages (Ok value) sure = tt
+  same_pages (Err why) sure = record { pages = refl; doubt = sym sure; records = refl }
+
+  any_err : {T : Type 0} (done : Result T TendFault) (P : Type 0) → P → OnErr done P
+  any_err (Ok value) P holds = tt
+  any_err (Err why) P holds = holds
 
   err_now : {T : Type 0} (done : Result T TendFault) (why : TendFault) → done ≡ Err why
       → OnOk done (WasCheckpointed cache)
@@ -167,6 +177,7 @@ module _ {D : Type 0} (seat : Seat D) (engine : seat.engine ≡ true) (cache : C
         (told refl) (read refl) gives,
     hand_of done,
     was_made done clean,
+    same_pages done gives.sure,
   )
   after_checkpoint done (Some l) log (Some at) halted_now s t f g a b c some told read halts stays clean gives =
       let stay = stays at refl in (
@@ -176,6 +187,7 @@ module _ {D : Type 0} (seat : Seat D) (engine : seat.engine ≡ true) (cache : C
         stay.2 gives,
         subst (HandIs cache) (sym stay.3) is,
         err_now done stay.0 stay.1,
+        any_err done _ (record { pages = refl; doubt = refl; records = refl }),
       )
 
 -- where it is halted nothing has changed
@@ -189,6 +201,27 @@ moments_of cache old new is done (Some l) log None halted_now s t f some told st
     checkpoint_moments cache old new is l log halted_now done s t f (told refl) gives
 moments_of cache old new is done (Some l) log (Some at) halted_now s t f some told stays gives =
     tells_same (on_disk.holds cache.pages) s t (λ x. disk_laws.holds_at cache.pages x) (stays at refl)
+
+-- ---- a device that was halted
+
+-- is refused with Halted alone, and then nothing has changed
+pub halted_same : {T : Type 0} (done : Result T TendFault) (a b c : ℕ) (halted now : Option ℕ) (Same : Type 0)
+    (at : ℕ) → done ≡ Err (Halted at) → (halted ≡ None → HaltsTend a b c now done)
+    → ((h : ℕ) → halted ≡ Some h → Same) → Same
+halted_same {T} done a b c None now Same at is halts stays =
+    absurd (subst (λ (r : Result T TendFault). HaltsTend a b c now r) is (halts refl))
+halted_same done a b c (Some h) now Same at is halts stays = stays h refl
+
+busy_halted : {T : Type 0} (r : Result T TendFault) (turn h : ℕ) → r ≡ Err (Busy turn) → r ≡ Err (Halted h) → ⊥
+busy_halted r turn h busy halted = cc
+
+pub never_busy : {T : Type 0} (done : Result T TendFault) (a b c : ℕ) (halted now : Option ℕ) (turn : ℕ)
+    → done ≡ Err (Busy turn) → (halted ≡ None → HaltsTend a b c now done)
+    → ((h : ℕ) → halted ≡ Some h → done ≡ Err (Halted h)) → ⊥
+never_busy {T} done a b c None now turn is halts stays =
+    subst (λ (r : Result T TendFault). HaltsTend a b c now r) is (halts refl)
+never_busy {T} done a b c (Some h) now turn is halts stays =
+    busy_halted done turn h is (stays h refl)
 
 -- ---- counts
 
@@ -217,6 +250,13 @@ made_map (Ok value) P Q step holds = step (Ok value) holds
 made_map (Err Fault) P Q step holds = step (Err Fault) holds
 made_map (Err (Halted at)) P Q step holds = step (Err (Halted at)) holds
 made_map (Err (Busy turn)) P Q step holds = tt
+
+-- by the refusal: none but a fault leaves what is told otherwise
+pub by_why : {T : Type 0} (done : Result T TendFault) (why : TendFault) (P : Type 0) → done ≡ Err why
+    → (why ≡ Fault → ⊥) → ((at : ℕ) → done ≡ Err (Halted at) → P) → ((turn : ℕ) → done ≡ Err (Busy turn) → ⊥) → P
+by_why done Fault P is other halted never = absurd (other refl)
+by_why done (Halted at) P is other halted never = halted at is
+by_why done (Busy turn) P is other halted never = absurd (never turn is)
 
 pub err_then : {T E : Type 0} (done : Result T E) (P Q : Type 0) → (P → Q) → OnErr done P → OnErr done Q
 err_then (Ok value) P Q step holds = tt

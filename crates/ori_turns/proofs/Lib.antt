@@ -4,8 +4,12 @@ mod Marking
 mod Told
 mod Making
 mod Hands
+mod Untouched
 mod Giving
 mod Synced
 mod Settled
 mod Finished
 mod Started
+mod Wanted
+mod Put
+mod Refused

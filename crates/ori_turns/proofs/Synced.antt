@@ -1,11 +1,14 @@
 -- What work over a hand makes of the cache.
 use Rattle.std.proofs.Common.{◌≡◌, ℕ, ◌%◌, ◌<◌, true, false, List, Option, Some, None}
-use Rattle.std.proofs.Common.{IfSome, is_some, Result, Ok, Err, OnOk, slice_index_or, refl, sym, ap, ◌∙◌, subst}
-use Rattle.std.proofs.Common.{cond, arith}
+use Rattle.std.proofs.Common.{IfSome, IfOk, is_some, Result, Ok, Err, OnOk, slice_index_or, refl, sym, ap, ◌∙◌, subst}
+use Rattle.std.proofs.Common.{cond, arith, ◌≢◌, ⊎_elim}
+use Rattle.std.proofs.lemmas.Bool.{cases_eq}
 use Rattle.ori_bytes.specs.declared.limits.TheConstants.{PARTITIONS}
 use Rattle.ori_volume.specs.declared.failed.Failed.{Failed}
 use Rattle.ori_volume.specs.Story.{Tells}
+use Rattle.ori_volume.proofs.Known.{some_then, some_told, tells_both, tells_same}
 use Rattle.std.specs.Option.{option_map}
+use Rattle.std.specs.Result.{OnErr}
 use Rattle.ori_part.specs.declared.place.Place.{Place}
 use Rattle.ori_part.specs.Parts.{PartData, HoldsNoMore, place_at}
 use Rattle.ori_cover.specs.Dirty.{Dirty, DirtyPage, AreSettled, settled_page}
@@ -14,8 +17,10 @@ use Rattle.ori_pool.specs.Held.{HasOwn, HasNoMore, HaveNoMore, AreTended}
 use Rattle.ori_pool.specs.declared.fault.TendFault.{TendFault}
 use Rattle.ori_pool.specs.declared.fault.TendFault.TheVariants.{Fault, Halted, Busy}
 use Rattle.ori_turns.specs.Seats.{Seat, Told, Last, IsTold, held_part, told_at, told_device, gave_device, took_device}
+use Rattle.ori_turns.specs.Seats.{PartsStay}
 use Rattle.ori_turns.specs.Caches.{Cache, AreOwn, IsPart, SameHeld, OnlyHeld}
 use Rattle.ori_turns.specs.Hands.{EachHeld, HandIs, NoneWritten, IsHandOf, GivesParts, GaveParts, told_part_or}
+use Rattle.ori_turns.specs.Hands.{PartsSettle}
 use Rattle.ori_turns.specs.Flushes.{IfSynced}
 use Rattle.ori_turns.proofs.Homes.{moved}
 use Rattle.ori_turns.proofs.Marking.{part_stays}
@@ -210,6 +215,112 @@ pub told_given : {D : Type 0} (taken given : D) (last : Last) (a b : Seat D)
     → b ≡ gave_device given last (took_device taken a) → IsTold (λ told. given ≡ told.device) b
 told_given taken given last a b gave = subst (IsTold (λ told. given ≡ told.device)) (sym gave)
     (given_device given a.told)
+
+-- the partitions stay
+parts_given : {D : Type 0} (given : D) (o : Option (Told D)) (P : Told D → Type 0)
+    → ((t : Told D) → P t → P (told_device given t)) → IfSome o P → IfSome (option_map (told_device given) o) P
+parts_given given None P step holds = tt
+parts_given given (Some t) P step holds = step t holds
+
+pub told_parts : {D : Type 0} (taken given : D) (last : Last) (a b : Seat D) (hand : Hand)
+    → b ≡ gave_device given last (took_device taken a)
+    → IsTold (λ told. EachHeld (λ k part. part ≡ told_at told k) hand) a
+    → IsTold (λ told. EachHeld (λ k part. part ≡ told_at told k) hand) b
+told_parts taken given last a b hand gave holds =
+    subst (IsTold (λ told. EachHeld (λ k part. part ≡ told_at told k) hand)) (sym gave)
+    (parts_given given a.told (λ told. EachHeld (λ k part. part ≡ told_at told k) hand) (λ t same. same) holds)
+
+parts_stay : {D : Type 0} (given : D) (o : Option (Told D)) → Tells PartsStay o (option_map (told_device given) o)
+parts_stay given None = refl
+parts_stay given (Some t) = (told_device given t, refl, refl)
+
+pub told_stay : {D : Type 0} (taken given : D) (last : Last) (a b : Seat D)
+    → b ≡ gave_device given last (took_device taken a) → Tells PartsStay a.told b.told
+told_stay taken given last a b gave =
+    subst (λ (s : Seat _). Tells PartsStay a.told s.told) (sym gave) (parts_stay given a.told)
+
+-- what is so of the device that is told is so once partitions are given back
+device_so : {D : Type 0} (G : ℕ → Type 0) (hand : Hand) (P : D → Type 0) (o p : Option (Told D))
+    → Tells (GivesParts G hand) o p → IfSome o (λ (told : Told D). P told.device)
+    → IfSome p (λ (told : Told D). P told.device)
+device_so {D} G hand P None p gave is =
+    subst (λ (o : Option (Told D)). IfSome o (λ (told : Told D). P told.device)) (sym gave) tt
+device_so {D} G hand P (Some t) p gave is =
+    subst (λ (o : Option (Told D)). IfSome o (λ (told : Told D). P told.device)) (sym gave.1)
+    (subst P (sym gave.2.device) is)
+
+pub told_so : {D : Type 0} (G : ℕ → Type 0) (hand : Hand) (P : D → Type 0) (a b : Seat D) → GaveParts G hand a b
+    → IsTold (λ told. P told.device) a → IsTold (λ told. P told.device) b
+told_so G hand P a b gave is = device_so G hand P a.told b.told gave.told is
+
+pub err_is : {T E : Type 0} (r : Result T E) (e : E) (P : Type 0) → r ≡ Err e → OnErr r P → P
+err_is (Ok value) e P is holds = cc
+err_is (Err fault) e P is holds = holds
+
+pub ok_is : {T E : Type 0} (r : Result T E) (x : T) (P : Type 0) → r ≡ Ok x → OnOk r P → P
+ok_is (Ok value) x P is holds = holds
+ok_is (Err fault) x P is holds = cc
+
+pub ok_so : {T E : Type 0} (r : Result T E) (P Q : T → Type 0) → ((x : T) → P x → Q x) → IfOk r P → IfOk r Q
+ok_so (Ok value) P Q step holds = step value holds
+ok_so (Err fault) P Q step holds = tt
+
+pub told_stays : {D : Type 0} (a b : Seat D) → b.told ≡ a.told → Tells PartsStay a.told b.told
+told_stays a b same = tells_same PartsStay a.told b.told (λ t. refl) same
+
+-- ---- what each partition holds dirty is settled
+
+no_place : (k : ℕ) (part : PartData) → AreOwn k part → (q : ℕ) → (q % PARTITIONS ≡ k → ⊥) → dirty_of part q ≡ None
+no_place k part own q apart = by_dirty (dirty_of part q) refl
+  where
+    by_dirty : (o : Option DirtyPage) → dirty_of part q ≡ o → dirty_of part q ≡ None
+    by_dirty None is = is
+    by_dirty (Some d) is = absurd (apart (own q (dirty_there_is (place_at part q) d is)).0)
+
+module _ (old new : Hand) (own_old : EachHeld AreOwn old) (own_new : EachHeld AreOwn new)
+    (settled : (others : Dirty) → AreSettled (dirty_with others old) (dirty_with others new)) where
+  held_is : (hand : Hand) (k : ℕ) (part : PartData) → slice_index_or hand k None ≡ Some part → (q : ℕ)
+      → q % PARTITIONS ≡ k → dirty_with (λ page. None) hand q ≡ dirty_of part q
+  held_is hand k part is q same =
+      ap (λ (o : Option PartData). dirty_held None o q) (ap (λ j. slice_index_or hand j None) same ∙ is)
+
+  part_settled : (k : ℕ) (was part : PartData) → slice_index_or old k None ≡ Some was
+      → slice_index_or new k None ≡ Some part → AreSettled (dirty_of was) (dirty_of part)
+  part_settled k was part is_was is_part q =
+      ⊎_elim
+      (λ (same : q % PARTITIONS ≡ k). sym (held_is new k part is_part q same) ∙ settled (λ page. None) q
+      ∙ ap settled_page (held_is old k was is_was q same))
+      (λ (apart : q % PARTITIONS ≢ k). no_place k part (own_new k part is_part) q apart
+      ∙ sym (ap settled_page (no_place k was (own_old k was is_was) q apart)))
+      (cases_eq (q % PARTITIONS) k)
+
+  -- by what is told of them
+  pub told_settled : {D : Type 0} (seat : Seat D)
+      → ((k : ℕ) → is_some (slice_index_or old k None) ≡ is_some (slice_index_or new k None))
+      → IsTold (λ told. EachHeld (λ k part. part ≡ told_at told k) old) seat
+      → IsTold (λ told. EachHeld (λ k part. AreSettled (dirty_of (told_at told k)) (dirty_of part)) new) seat
+  told_settled seat same told = some_then seat.told _ _
+      (λ t each k part is.
+      let was = part_at (slice_index_or old k None) (same k ∙ ap is_some is) in
+      subst (λ (x : PartData). AreSettled (dirty_of x) (dirty_of part)) (each k was.0 was.1)
+      (part_settled k was.0 part was.1 is)) told
+
+-- once they are given back
+pub gives_settled : {D : Type 0} (hand : Hand) → HoldsAll hand → (o p q : Option (Told D)) → Tells PartsStay o p
+    → Tells (GivesParts (λ k. k < PARTITIONS) hand) p q
+    → IfSome o (λ (t : Told D). EachHeld (λ k part. AreSettled (dirty_of (told_at t k)) (dirty_of part)) hand)
+    → Tells PartsSettle o q
+gives_settled {D} hand all o p q first second each =
+    tells_both PartsStay (GivesParts (λ k. k < PARTITIONS) hand) PartsSettle o p q
+    (λ t y u was then stay gives k low.
+    let at : k % PARTITIONS ≡ k = omega (arith, low) in
+    let there = part_at (slice_index_or hand k None)
+    (subst (λ j. is_some (slice_index_or hand j None) ≡ true) at (all k)) in
+    subst (λ (x : PartData). AreSettled (dirty_of (told_at t k)) (dirty_of x))
+    (sym (gives.given k low ∙ ap (λ (h : Option PartData). told_part_or h (told_at y k)) there.1))
+    (some_told (λ (x : Told D). EachHeld (λ j part. AreSettled (dirty_of (told_at x j)) (dirty_of part)) hand) o t was
+    each k there.0 there.1))
+    first second
 
 pub synced_map : (r : Result (Unit {0}) TendFault) (P Q : Result (Unit {0}) Failed → Type 0)
     → ((done : Result (Unit {0}) Failed) → P done → Q done) → IfSynced r P → IfSynced r Q

@@ -1,15 +1,15 @@
 -- What the turns told before a flush, and tell after it.
-use Rattle.std.proofs.Common.{◌≡◌, ℕ, ◌<◌, length, Option, Some, None, IfSome, refl, sym, ap, ◌∙◌, subst}
+use Rattle.std.proofs.Common.{◌≡◌, ℕ, ◌<◌, length, Option, Some, None, IfSome, slice_set, refl, sym, ap, ◌∙◌, subst}
 use Rattle.std.specs.Option.{option_map}
-use Rattle.std.proofs.lemmas.List.{get_or-set_same}
+use Rattle.std.proofs.lemmas.List.{get_or-set_same, set-get_or}
 use Rattle.ori_bytes.specs.declared.limits.TheConstants.{PARTITIONS}
 use Rattle.ori_part.specs.Parts.{PartData, no_pages, unwritten_page}
 use Rattle.ori_cover.specs.Dirty.{DirtyPage}
 use Rattle.ori_pool.specs.Held.{dirty_of}
 use Rattle.ori_turns.specs.Seats.{Seat, Told, Last, took_part, gave_part, told_part, took_device, gave_device}
 use Rattle.ori_turns.specs.Seats.{told_device}
-use Rattle.ori_turns.specs.Seats.{told_at}
-use Rattle.ori_turns.specs.Seats.{IsTold}
+use Rattle.ori_turns.specs.Seats.{told_at, IsTold, PartsStay}
+use Rattle.ori_volume.specs.Story.{Tells}
 
 module _ {D : Type 0} (k : ℕ) (p q : PartData) (taken given : D) (last : Last) where
   given_here : (o : Option (Told D)) → IfSome (option_map (told_part k q) (option_map (told_device given) o))
@@ -56,6 +56,25 @@ module _ {D : Type 0} (k : ℕ) (p q : PartData) (taken given : D) (last : Last)
       subst (λ (x : PartData). R (told_at told k) x)
       (sym (get_or-set_same told.parts k q no_pages (subst (λ n. k < n) (sym eight) below)))
       (subst (λ (x : PartData). R x q) part holds)
+
+  stays_here : q ≡ p → (o : Option (Told D)) → IfSome o (λ (told : Told D). p ≡ told_at told k)
+      → Tells PartsStay o (option_map (told_part k q) (option_map (told_device given) o))
+  stays_here same None part = refl
+  stays_here same (Some told) part = (
+    told_part k q (told_device given told),
+    refl,
+    ap (λ (x : PartData). slice_set told.parts k x) (same ∙ part) ∙ set-get_or told.parts k no_pages,
+  )
+
+  -- the partitions, where this one was given as it was taken
+  pub told_unmarked : q ≡ p → (a b c d : Seat D) → b ≡ took_part k p a
+      → c ≡ gave_device given last (took_device taken b) → d ≡ gave_part k q c
+      → IsTold (λ told. p ≡ told_at told k) a → Tells PartsStay a.told d.told
+  told_unmarked same a b c d first second third part =
+      subst (λ (s : Seat D). Tells PartsStay a.told s.told)
+      (sym (third ∙ ap (gave_part k q) (second
+      ∙ ap (λ s. gave_device given last (took_device taken s)) first)))
+      (stays_here same a.told part)
 
   -- the partition as it was taken, and as it was given
   pub told_pair : (R : PartData → PartData → Type 0) → R p q → k < PARTITIONS → (a b c d : Seat D)

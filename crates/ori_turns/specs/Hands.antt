@@ -4,7 +4,8 @@ use Rattle.std.specs.Prelude.{slice_index_or}
 use Rattle.ori_bytes.specs.declared.limits.TheConstants.{PARTITIONS}
 use Rattle.ori_volume.specs.Story.{Tells}
 use Rattle.ori_part.specs.Parts.{PartData}
-use Rattle.ori_cover.specs.Dirty.{Dirty, DirtyPage}
+use Rattle.ori_cover.specs.Dirty.{Dirty, DirtyPage, AreSettled}
+use Rattle.ori_pool.specs.Held.{dirty_of}
 use Rattle.ori_turns.specs.Seats.{Seat, Told, IsTold, held_part, told_at}
 use Rattle.ori_turns.specs.Caches.{Cache, AreOwn, IsPart}
 
@@ -61,3 +62,7 @@ pub record GaveParts {D : Type 0} (back : ℕ → Type 0) (hand : List (Option P
 -- no written page is dirty
 abbrev pub NoneWritten : Dirty → Type 0
 NoneWritten dirty = (page : ℕ) (d : DirtyPage) → dirty page ≡ Some d → d.written ≡ false
+
+-- of each partition each written page has become clean, and the others are as they were
+abbrev pub PartsSettle : {D : Type 0} → Told D → Told D → Type 0
+PartsSettle old new = (k : ℕ) → k < PARTITIONS → AreSettled (dirty_of (told_at old k)) (dirty_of (told_at new k))

@@ -1,9 +1,11 @@
 pub mod Slots
 pub mod Seats
+pub mod Knowing
 pub mod Caches
 pub mod Owning
 pub mod Flushes
 pub mod Hands
 pub mod Works
 pub mod Checkpointed
+pub mod Committed
 pub mod Openings

@@ -5,6 +5,7 @@ use Rattle.std.specs.Option.{option_map}
 use Rattle.ori_bytes.specs.declared.limits.TheConstants.{PARTITIONS}
 use Rattle.ori_log.specs.declared.log.Log.{Log}
 use Rattle.ori_part.specs.Parts.{PartData, no_pages}
+use Rattle.ori_volume.specs.Causes.{Rose}
 use Rattle.ori_pool.specs.declared.device.Device.{Device}
 
 -- the partitions, k at place k, and the device, as they were last given
@@ -96,3 +97,16 @@ pub record IsTended {D : Type 0} (old new : Seat D) : Type 0 where
   pub faults : old.last.faults ≤ new.last.faults
   pub log : old.engine ≡ true → (new.last.log ≡ old.last.log) × (new.last.halted ≡ old.last.halted)
       × (new.last.log_faults ≡ old.last.log_faults)
+
+-- what the handle knows and what it tells are as they were
+pub record NothingChanged {D : Type 0} (old new : Seat D) : Type 0 where
+  pub last : new.last ≡ old.last
+  pub told : new.told ≡ old.told
+
+-- so are the partitions that it tells
+abbrev pub PartsStay : {D : Type 0} → Told D → Told D → Type 0
+PartsStay old new = new.parts ≡ old.parts
+
+-- another handle held this turn: a partition's, or the device's
+abbrev pub TurnHeld : ℕ → ℕ → ℕ → Type 0
+TurnHeld turn before now = (turn ≤ PARTITIONS) × Rose before now

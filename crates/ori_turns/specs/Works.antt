@@ -65,6 +65,9 @@ pub record MakesCheckpoint (done : Result ℕ TendFault) (was now : List (Option
   pub files : taken.halted ≡ None
       → Tells (Checkpoints as_read taken.log given.log was now given.halted done) taken.files given.files
   pub halted : IsSome taken.halted → StaysHalted was now taken given
+  pub log : IsSome given.log
+  pub faults : taken.faults ≤ given.faults
+  pub log_faults : taken.log_faults ≤ given.log_faults
   pub tended : AreTended was now
 
 -- an operation was committed, or refused
@@ -75,6 +78,9 @@ pub record CommitsPages (done : Result ℕ OpFault) (images : List ImageData) (w
   pub files : taken.halted ≡ None
       → Tells (Commits as_read taken.log given.log was now images given.halted done) taken.files given.files
   pub halted : IsSome taken.halted → StaysHalted was now taken given
+  pub log : IsSome given.log
+  pub faults : taken.faults ≤ given.faults
+  pub log_faults : taken.log_faults ≤ given.log_faults
   pub contents : OnOk done (HaveFrom images was now)
   pub no_more : OnErr done (HaveNoMore was now)
 
@@ -84,6 +90,8 @@ pub record Starts (images : List ImageData) (was now : List (Option PartData)) (
   pub files : Tells (OpensRead {E = LogFault} (Ok images) given.log) taken.files given.files
   pub attached : IsSome given.log
   pub unhalted : given.halted ≡ None
+  pub faults : taken.faults ≤ given.faults
+  pub log_faults : given.log_faults ≡ taken.log_faults
   pub installed : (others : Dirty) → AreInstalled images (dirty_with others was) (dirty_with others now)
   pub contents : HaveFrom images was now
 
@@ -92,6 +100,8 @@ pub record StartRefused (was now : List (Option PartData)) (taken given : Seen) 
   pub story : (done : Result (List ImageData) LogFault) × (log : Option Log)
       × Tells (Opens done log) taken.story given.story
   pub closed : given.log ≡ None
+  pub faults : taken.faults ≤ given.faults
+  pub log_faults : taken.log_faults ≤ given.log_faults
   pub dirty : (others : Dirty) (q : ℕ) → dirty_with others now q ≡ dirty_with others was q
   pub no_more : HaveNoMore was now
 

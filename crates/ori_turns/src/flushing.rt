@@ -9,8 +9,8 @@ ghost use Rattle.ori_cover.specs.Dirty.{unwritten};
 ghost use Rattle.ori_cover.specs.Steps.{WritesHome};
 ghost use Rattle.ori_pool.specs.declared.device.Device.{Device};
 ghost use Rattle.ori_pool.specs.Held.{dirty_of};
-ghost use Rattle.ori_turns.specs.Seats.{held_part, took_device, gave_device, told_at, IsTold, HoldsNothing};
-ghost use Rattle.ori_turns.specs.Seats.{last_of};
+ghost use Rattle.ori_turns.specs.Seats.{held_part, took_device, gave_device, last_of, told_at, IsTold, HoldsNothing};
+ghost use Rattle.ori_turns.specs.Seats.{IsTended, NothingChanged, PartsStay, TurnHeld};
 ghost use Rattle.ori_turns.specs.Caches.{Cache, AreOwn, IsPart, SamePages};
 ghost use Rattle.ori_turns.specs.Flushes.{IfFlushed, MarksFirst};
 ghost use Rattle.ori_pool.specs.declared.fault.TendFault.{TendFault};
@@ -48,6 +48,10 @@ fn flush_page<V: Volume, F: Frames<V>, G: Gate>(
         × (F.seat frames.new ≡ gave_device given (last_of V.faults V.log_faults given)
         (took_device taken (F.seat frames.old)))
         × ((F.seat frames.old).last.faults ≤ V.faults taken.volume)
+        × ((F.seat frames.old).engine ≡ true → (taken.log ≡ (F.seat frames.old).last.log)
+        × (taken.halted ≡ (F.seat frames.old).last.halted)
+        × (V.log_faults taken.volume ≡ (F.seat frames.old).last.log_faults))
+        × (given.log ≡ taken.log) × (given.halted ≡ taken.halted)
         × HasCause (V.faults taken.volume) (V.faults given.volume) done
         × (V.log_faults given.volume ≡ V.log_faults taken.volume)
         × ((content : List ℕ) → dirty_of held.old page ≡ Some (unwritten content)
@@ -84,13 +88,17 @@ pub fn flush_one<V: Volume, F: Frames<V>, G: Gate>(
         (λ told. wrote ≡ is_some (unwritten_page (told_at told part).places)) (F.seat frames.old)) }
     ensures marked { result ≡ Ok true → IsTold (λ was. IsTold (λ now. MarksFirst (told_at was part)
         (told_at now part)) (F.seat frames.new)) (F.seat frames.old) }
+    ensures kept { IsTended (F.seat frames.old) (F.seat frames.new) }
     ensures waits { F.waits frames.old ≤ F.waits frames.new }
     ensures busy { (turn : ℕ) → IsErrOf result (TendFault.Busy turn)
-        → Rose (F.waits frames.old) (F.waits frames.new) }
+        → TurnHeld turn (F.waits frames.old) (F.waits frames.new) }
+    ensures same { (turn : ℕ) → IsErrOf result (TendFault.Busy turn)
+        → NothingChanged (F.seat frames.old) (F.seat frames.new) }
     ensures halted { (at_fault : ℕ) → IsErrOf result (TendFault.Halted at_fault) → ⊥ }
-    ensures faults { (F.seat frames.old).last.faults ≤ (F.seat frames.new).last.faults }
     ensures fault { IsErrOf result TendFault.Fault
         → Rose (F.seat frames.old).last.faults (F.seat frames.new).last.faults }
+    ensures unmarked { IsErrOf result TendFault.Fault
+        → Tells PartsStay (F.seat frames.old).told (F.seat frames.new).told }
     ensures crash { IfFlushed result (λ done. (taken given : Device V) × (page : ℕ) × (content : List ℕ)
         × IsTold (λ told. (taken ≡ told.device) × (unwritten_page (told_at told part).places ≡ Some page)
         × (dirty_of (told_at told part) page ≡ Some (unwritten content))) (F.seat frames.old)

@@ -1,7 +1,6 @@
 // Turns that are taken and given back.
 ghost use Rattle.std.specs.Prelude.{◌≡◌, ◌≢◌, ◌%◌, ◌<◌, ◌≤◌, ℕ, List, length, true, Option, None, Some, Result};
-ghost use Rattle.std.specs.Prelude.{IsSome};
-ghost use Rattle.std.specs.Prelude.{IfSome, IfNone};
+ghost use Rattle.std.specs.Prelude.{IsSome, IfSome, IfNone};
 ghost use Rattle.ori_bytes.specs.declared.limits.TheConstants.{PARTITIONS};
 ghost use Rattle.ori_volume.specs.Causes.{Rose};
 ghost use Rattle.ori_volume.specs.Story.{Tells};
@@ -14,13 +13,11 @@ ghost use Rattle.ori_cover.specs.Steps.{WritesHome};
 ghost use Rattle.ori_cover.specs.Reading.{WritesHomeRead};
 ghost use Rattle.ori_pool.specs.Held.{dirty_of};
 ghost use Rattle.ori_pool.specs.declared.device.Device.{Device};
-ghost use Rattle.ori_turns.specs.Caches.{AreOwn};
+ghost use Rattle.ori_turns.specs.Caches.{Cache, GivesCache, AreOwn, IsPart, OnlyPart, SameHeld, OnlyHeld};
 ghost use Rattle.ori_turns.specs.Hands.{EachHeld};
 ghost use Rattle.ori_turns.specs.Works.{Settles, LogWork, seen};
-ghost use Rattle.ori_turns.specs.Seats.{Seat, held_part, took_part, gave_part, took_device, gave_device, IsTold};
-ghost use Rattle.ori_turns.specs.Seats.{last_of};
-ghost use Rattle.ori_turns.specs.Seats.{told_at};
-ghost use Rattle.ori_turns.specs.Caches.{Cache, GivesCache, IsPart, OnlyPart, SameHeld, OnlyHeld};
+ghost use Rattle.ori_turns.specs.Seats.{Seat, held_part, took_part, gave_part, took_device, gave_device, last_of};
+ghost use Rattle.ori_turns.specs.Seats.{IsTold, told_at};
 
 use ori_part::Part;
 use ori_pool::Device;
@@ -158,6 +155,11 @@ pub trait Frames<V: Volume> {
     /// There are eight partitions.
     ghost eight: { (frames : Self) → (length (seat frames).parts ≡ PARTITIONS)
         × IsTold (λ told. length told.parts ≡ PARTITIONS) (seat frames) };
+
+    /// The device that it tells gives the pages.
+    ghost told_gives: { (frames : Self) (cache : Cache) → gives frames cache → IsTold (λ told. GivesCache
+        told.device.log told.device.halted (V.story told.device.volume) (V.files told.device.volume) cache)
+        (seat frames) };
 
     /// And of one with those that it shares with.
     ghost shares_on: { (a b c : Self) → shares a b → shares b c → shares a c };

@@ -5,8 +5,10 @@
 #![tactic(auto)]
 
 mod checkpointing;
+mod committing;
 mod flushing;
 mod frames;
+mod known;
 mod opening;
 mod owned;
 mod settling;
@@ -15,9 +17,11 @@ mod starting;
 mod taking;
 
 pub use checkpointing::checkpoint;
+pub use committing::commit;
 pub use flushing::flush_one;
 pub use frames::Frames;
-pub use opening::StartFault;
+pub use known::Known;
+pub use opening::{Opening, StartFault};
 pub use owned::Owned;
 pub use settling::settle;
 pub use slot::Slot;

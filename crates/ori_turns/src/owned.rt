@@ -103,6 +103,8 @@ impl<V: Volume> Frames<V> for Owned<V> {
 
     ghost eight = { λ o. (length-map o.parts.items _ ∙ o.count, length-map o.parts.items _ ∙ o.count) };
 
+    ghost told_gives = { λ _ _ is. is.1 };
+
     ghost shares_itself = { λ _. tt };
 
     ghost shares_on = { λ _ _ _ _ _. tt };

@@ -9,8 +9,9 @@ ghost use Rattle.ori_pool.specs.declared.device.Device.{Device};
 ghost use Rattle.ori_pool.specs.declared.fault.TendFault.{TendFault};
 ghost use Rattle.ori_pool.specs.Held.{dirty_of, dirty_with, HoldsAll};
 ghost use Rattle.ori_turns.specs.Seats.{HoldsNothing, IsTended, IsTold, told_at, took_device, gave_device, last_of};
+ghost use Rattle.ori_turns.specs.Seats.{NothingChanged, PartsStay, TurnHeld};
 ghost use Rattle.ori_turns.specs.Caches.{Cache, AreOwn, SamePages};
-ghost use Rattle.ori_turns.specs.Hands.{empty_hand, EachHeld, AreTaken, HandIs, IsHandOf, NoneWritten};
+ghost use Rattle.ori_turns.specs.Hands.{empty_hand, EachHeld, AreTaken, HandIs, IsHandOf, NoneWritten, PartsSettle};
 ghost use Rattle.ori_turns.specs.Flushes.{IfSynced};
 
 use crate::Frames;
@@ -70,7 +71,12 @@ fn try_settle<V: Volume, F: Frames<V>>(frames: &mut F, hand: &mut Hand) -> Resul
     ensures kept { IsTended (F.seat frames.old) (F.seat frames.new) }
     ensures later { F.waits frames.old ≤ F.waits frames.new }
     ensures busy { (turn : ℕ) → IsErrOf result (TendFault.Busy turn)
-        → Rose (F.waits frames.old) (F.waits frames.new) }
+        → TurnHeld turn (F.waits frames.old) (F.waits frames.new) }
+    ensures same { (turn : ℕ) → IsErrOf result (TendFault.Busy turn)
+        → NothingChanged (F.seat frames.old) (F.seat frames.new) }
+    ensures parts { Tells PartsStay (F.seat frames.old).told (F.seat frames.new).told }
+    ensures untouched { OnErr result (IsTold (λ told. EachHeld (λ k part. part ≡ told_at told k) hand.new.parts.items)
+        (F.seat frames.new)) }
     ensures halted { (at_fault : ℕ) → IsErrOf result (TendFault.Halted at_fault) → ⊥ }
     ensures fault { IsErrOf result TendFault.Fault
         → Rose (F.seat frames.old).last.faults (F.seat frames.new).last.faults }
@@ -80,6 +86,8 @@ fn try_settle<V: Volume, F: Frames<V>>(frames: &mut F, hand: &mut Hand) -> Resul
         × Tells (SyncsHomes done) (V.story taken.volume) (V.story given.volume)) }
     ensures all { OnOk result (HoldsAll hand.new.parts.items) }
     ensures settled { OnOk result ((others : Dirty) → NoneWritten (dirty_with others hand.new.parts.items)) }
+    ensures unwritten { OnOk result (IsTold (λ told. EachHeld (λ k part. AreSettled (dirty_of (told_at told k))
+        (dirty_of part)) hand.new.parts.items) (F.seat frames.old)) }
     ensures gives { (cache : Cache) → F.gives frames.old cache
         → (now : Cache) × SamePages cache now × F.gives frames.new now × HandIs now hand.new.parts.items
         × OnOk result (NoneWritten now.dirty) }
@@ -99,8 +107,8 @@ fn try_settle<V: Volume, F: Frames<V>>(frames: &mut F, hand: &mut Hand) -> Resul
 /// Makes the homes firm, after which no page that was written is dirty: takes all partitions and then the device, and
 /// gives them back. The hand is empty, before and after: by it no memory is taken but what clean pages may use.
 ///
-/// `Busy` comes only where another handle held a turn. After a fault the pages are as they were, and nothing is halted;
-/// `Halted` never comes.
+/// Each written page becomes clean, and each other is as it was. `Busy` comes only where another handle held a turn,
+/// and nothing has changed then. After a fault each page is as it was, and nothing is halted; `Halted` never comes.
 pub fn settle<V: Volume, F: Frames<V>>(frames: &mut F, hand: &mut Hand) -> Result<(), TendFault>
     requires free { HoldsNothing (F.seat frames.old) }
     requires empty { hand.old.parts.items ≡ empty_hand }
@@ -110,16 +118,21 @@ pub fn settle<V: Volume, F: Frames<V>>(frames: &mut F, hand: &mut Hand) -> Resul
     ensures kept { IsTended (F.seat frames.old) (F.seat frames.new) }
     ensures waits { F.waits frames.old ≤ F.waits frames.new }
     ensures busy { (turn : ℕ) → IsErrOf result (TendFault.Busy turn)
-        → Rose (F.waits frames.old) (F.waits frames.new) }
+        → TurnHeld turn (F.waits frames.old) (F.waits frames.new) }
+    ensures same { (turn : ℕ) → IsErrOf result (TendFault.Busy turn)
+        → NothingChanged (F.seat frames.old) (F.seat frames.new) }
     ensures halted { (at_fault : ℕ) → IsErrOf result (TendFault.Halted at_fault) → ⊥ }
     ensures fault { IsErrOf result TendFault.Fault
         → Rose (F.seat frames.old).last.faults (F.seat frames.new).last.faults }
+    ensures unsettled { IsErrOf result TendFault.Fault
+        → Tells PartsStay (F.seat frames.old).told (F.seat frames.new).told }
     ensures crash { IfSynced result (λ done. (taken given : Device V)
         × IsTold (λ told. taken ≡ told.device) (F.seat frames.old)
         × IsTold (λ told. given ≡ told.device) (F.seat frames.new)
         × Tells (SyncsHomes done) (V.story taken.volume) (V.story given.volume)) }
     ensures settled { OnOk result (IsTold (λ told. (k : ℕ) → k < PARTITIONS
         → NoneWritten (dirty_of (told_at told k))) (F.seat frames.new)) }
+    ensures unwritten { OnOk result (Tells PartsSettle (F.seat frames.old).told (F.seat frames.new).told) }
     ensures gives { (cache : Cache) → F.gives frames.old cache
         → (now : Cache) × SamePages cache now × F.gives frames.new now × OnOk result (NoneWritten now.dirty) }
 {

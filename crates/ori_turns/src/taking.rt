@@ -1,11 +1,10 @@
 // All partitions at once.
 ghost use Rattle.std.specs.Prelude.{◌≡◌, ◌≢◌, ◌≤◌, ◌<◌, ◌+◌, ℕ, List, true, false, None, Some, Option, IfSome};
-ghost use Rattle.std.specs.Prelude.{IfNone};
-ghost use Rattle.std.specs.Prelude.{IsSome, is_some, slice_index_or, slice_set};
+ghost use Rattle.std.specs.Prelude.{IfNone, IsSome, is_some, slice_index_or, slice_set};
 ghost use Rattle.ori_bytes.specs.declared.limits.TheConstants.{PARTITIONS};
 ghost use Rattle.ori_volume.specs.Causes.{Rose};
 ghost use Rattle.ori_volume.specs.Story.{Tells};
-ghost use Rattle.ori_turns.specs.Seats.{HoldsNothing, with_parts, held_part};
+ghost use Rattle.ori_turns.specs.Seats.{HoldsNothing, TurnHeld, with_parts, held_part};
 ghost use Rattle.ori_turns.specs.Caches.{Cache, AreOwn, SamePages};
 ghost use Rattle.ori_turns.specs.Hands.{empty_hand, EachHeld, AreTaken, HandIs, IsHandOf, IsFullTo, GaveParts};
 
@@ -15,7 +14,11 @@ use ori_pool::Hand;
 use ori_volume::Volume;
 
 // Takes one partition more into a hand, which has those whose turns are held.
-fn take_one<V: Volume, F: Frames<V>>(frames: &mut F, hand: &mut Hand, part: u8) -> Option<()>
+pub(crate) fn take_one<V: Volume, F: Frames<V>>(
+    frames: &mut F,
+    hand: &mut Hand,
+    part: u8,
+) -> Option<()>
     requires part { part < PARTITIONS }
     requires free { slice_index_or hand.old.parts.items part None ≡ None }
     requires taken { AreTaken (F.seat frames.old) (F.may_give frames.old) hand.old.parts.items }
@@ -47,7 +50,7 @@ pub(crate) fn take_parts<V: Volume, F: Frames<V>>(frames: &mut F, hand: &mut Han
     ensures gives { (cache : Cache) → F.gives frames.old cache
         → (now : Cache) × SamePages cache now × F.gives frames.new now × HandIs now hand.new.parts.items }
     ensures later { F.waits frames.old ≤ F.waits frames.new }
-    ensures busy { IfSome result (λ part. Rose (F.waits frames.old) (F.waits frames.new)) }
+    ensures busy { IfSome result (λ part. TurnHeld part (F.waits frames.old) (F.waits frames.new)) }
 {
     for part in 0..PARTITIONS as u8 {
         if take_one(frames, hand, part).is_none() {

@@ -88,6 +88,3 @@ pub all_joined : (text done : List ℕ) (at : ℕ) (whole : Option (List ℕ)) �
     → joined done (hex_bytes (drop (2 * at) text)) ≡ whole → Some done ≡ whole
 all_joined text done at whole le h =
     sym (rw (drop_all (2 * at) text le) (ap (λ (l : List ℕ). Some l) (append-nil done))) ∙ h
-
--- what a text of digits leads to, a digit or two at a time
-pub ruleset hex_steps = (odd_is_none, high_is_none, low_is_none, pair_joined, all_joined)

@@ -6,7 +6,7 @@ use ori_bytes::{Blob, NoMemory};
 use std::alloc::Global;
 
 /// The bytes that a text of an even number of digits 0-9a-f names, or none for any other text.
-#[tactic(auto, using(crate::proofs::HexSteps::hex_steps))]
+#[tactic(auto, using(crate::proofs::HexSteps::odd_is_none))]
 pub fn from_hex(alloc: Global, text: &[u8]) -> Result<Option<Blob>, NoMemory>
     ensures { IfOk result (λ r. r ≡ hex_bytes text.now) }
 {

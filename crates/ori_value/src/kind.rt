@@ -1,7 +1,7 @@
 // Kinds of values.
 
 /// The kinds that a value can have. Null has none.
-#[derive(Clone, Copy, PartialEq, Eq)]
+#[derive(Clone, Copy)]
 pub enum Kind {
     Boolean,
     Integer,

@@ -4,39 +4,65 @@ use ori_bytes::NoMemory;
 use ori_volmem::{Image, MemVolume};
 use ori_volume::FileNo;
 use std::alloc::Global;
-use std::test::Fail;
 
-// So many INSERTs over an empty volume that stops behind so many calls.
-fn inserts(alloc: Global, count: u64, calls: u64) -> Result<(RunResult, MemVolume), NoMemory> {
-    let mut input = String::new(alloc);
-    for i in 0..count {
-        input.push_str(format!(in alloc; "1 INSERT INTO V SET a = '{i}'\n")?.as_str())?;
-    }
+// A script over an empty volume that stops after so many calls.
+fn stopped(alloc: Global, script: &[u8], calls: u64) -> Result<(RunResult, MemVolume), NoMemory> {
     let mut volume = MemVolume::empty(alloc);
     volume.stop_after(calls);
-    over(alloc, volume, input.as_str().as_bytes())
+    over(alloc, volume, script)
 }
 
-// What a SELECT of the record at a position says, where there are so many.
-fn found_at(alloc: Global, i: u64, count: u64) -> Result<String, NoMemory> {
-    if i >= count {
-        return Ok(String::from_str(alloc, "1 OK 0\n")?);
+const THREE_INSERTS: &[u8] =
+    b"1 INSERT INTO V SET a = '0'\n1 INSERT INTO V SET a = '1'\n1 INSERT INTO V SET a = '2'\n";
+
+const FIVE_INSERTS: &[u8] =
+    b"1 INSERT INTO V SET a = '0'\n1 INSERT INTO V SET a = '1'\n1 INSERT INTO V SET a = '2'\n\
+1 INSERT INTO V SET a = '3'\n1 INSERT INTO V SET a = '4'\n";
+
+// A SELECT of the record of each.
+const SELECTS: &[u8] =
+    b"1 SELECT FROM #1:0\n1 SELECT FROM #1:1\n1 SELECT FROM #1:2\n1 SELECT FROM #1:3\n1 SELECT FROM #1:4\n";
+
+// What each says of its record, and where there is none.
+const ROWS: [&[u8]; 5] = [
+    b"1 ROW {\"@class\":\"V\",\"@rid\":\"#1:0\",\"@version\":1,\"a\":\"0\"}\n1 OK 1\n",
+    b"1 ROW {\"@class\":\"V\",\"@rid\":\"#1:1\",\"@version\":1,\"a\":\"1\"}\n1 OK 1\n",
+    b"1 ROW {\"@class\":\"V\",\"@rid\":\"#1:2\",\"@version\":1,\"a\":\"2\"}\n1 OK 1\n",
+    b"1 ROW {\"@class\":\"V\",\"@rid\":\"#1:3\",\"@version\":1,\"a\":\"3\"}\n1 OK 1\n",
+    b"1 ROW {\"@class\":\"V\",\"@rid\":\"#1:4\",\"@version\":1,\"a\":\"4\"}\n1 OK 1\n",
+];
+
+const NO_ROW: &[u8] = b"1 OK 0\n";
+
+// Whether the first so many records are printed, and no other.
+fn prints(printed: &[u8], count: u64) -> bool {
+    let mut rest = printed;
+    let mut at: u64 = 0;
+    for row in ROWS {
+        let reply = if at < count { row } else { NO_ROW };
+        let Some(more) = rest.strip_prefix(reply) else {
+            return false;
+        };
+        rest = more;
+        at = at.saturating_add(1);
     }
-    Ok(format!(in alloc;
-        "1 ROW {{\"@class\":\"V\",\"@rid\":\"#1:{i}\",\"@version\":1,\"a\":\"{i}\"}}\n1 OK 1\n"
-    )?)
+    rest.is_empty()
 }
 
 // Whether an image opens to so many of the records of five INSERTs.
-fn has(alloc: Global, image: Image, count: u64) -> Result<bool, NoMemory> {
-    let mut input = String::new(alloc);
-    let mut want = String::new(alloc);
-    for i in 0..5 {
-        input.push_str(format!(in alloc; "1 SELECT FROM #1:{i}\n")?.as_str())?;
-        want.push_str(found_at(alloc, i, count)?.as_str())?;
+fn has(alloc: Global, image: Image, count: u64) -> bool {
+    match over(alloc, MemVolume::of_image(image), SELECTS) {
+        Ok((came, _)) => came.status == 0 && prints(came.printed.as_slice(), count),
+        Err(_) => false,
     }
-    let (came, _) = over(alloc, MemVolume::of_image(image), input.as_str().as_bytes())?;
-    Ok(came.status == 0 && came.printed.as_slice() == want.as_str().as_bytes())
+}
+
+// Whether this image of a crash does.
+fn leaves(alloc: Global, volume: &MemVolume, pick: u64, count: u64) -> bool {
+    match volume.crash(pick) {
+        Ok(image) => has(alloc, image, count),
+        Err(_) => false,
+    }
 }
 
 // What a crash leaves with the gate before a record open.
@@ -48,41 +74,51 @@ fn with_open_gate(alloc: Global, volume: &MemVolume, at: u64) -> Result<Option<I
     Ok(Some(volume.crash_with(1, FileNo::LogA, at, 0xa5)?))
 }
 
+// Whether a crash with the gate before the fifth record open leaves five.
+fn leaves_five(alloc: Global, volume: &MemVolume) -> bool {
+    match with_open_gate(alloc, volume, 4 * 8209) {
+        Ok(Some(image)) => has(alloc, image, 5),
+        _ => false,
+    }
+}
+
 // The fifth INSERT has opened its gate, at byte 4 * 8,209, and not synced it.
 #[test]
-fn a_gate_that_may_be_open_decides(rt: HostRuntime) -> Result<(), Fail> {
-    let alloc = rt.alloc();
-    let (came, volume) = inserts(alloc, 5, OPENING_CALLS + 4 * COMMIT_CALLS + 3)?;
-    assert_eq!(rt; (came.entries, came.marks), (4, 4));
-    assert!(rt; has(alloc, volume.crash(1)?, 4)?);
-    let open = with_open_gate(alloc, &volume, 4 * 8209)?.ok_or("the gate is loose")?;
-    assert!(rt; has(alloc, open, 5)?);
-    Ok(())
+fn a_gate_that_may_be_open_decides(rt: HostRuntime) {
+    let calls = OPENING_CALLS + 4 * COMMIT_CALLS + 3;
+    let Ok((came, volume)) = stopped(rt.alloc(), FIVE_INSERTS, calls) else {
+        panic!(rt; "out of memory")
+    };
+    assert!(rt; came.entries == 4 && came.marks == 4);
+    assert!(rt; leaves(rt.alloc(), &volume, 1, 4));
+    assert!(rt; leaves_five(rt.alloc(), &volume));
 }
 
-// Whether an image that three INSERTs leave which stop behind so many calls has what was acknowledged, or one more in
-// doubt.
-fn leaves_a_prefix(alloc: Global, calls: u64, pick: u64) -> Result<bool, NoMemory> {
-    let (came, volume) = inserts(alloc, 3, calls)?;
-    if has(alloc, volume.crash(pick)?, came.entries)? {
-        return Ok(true);
+// Whether each of four images has what was acknowledged, or one more in doubt.
+fn leaves_a_prefix(alloc: Global, volume: &MemVolume, entries: u64, in_doubt: bool) -> bool {
+    for pick in 0..4 {
+        if !leaves(alloc, volume, pick, entries)
+            && !(in_doubt && leaves(alloc, volume, pick, entries.saturating_add(1)))
+        {
+            return false;
+        }
     }
-    let more = came.entries.saturating_add(1);
-    Ok(came.in_doubt && has(alloc, volume.crash(pick)?, more)?)
+    true
+}
+
+// Whether those do which three INSERTs leave that stop after so many calls.
+fn stops_at_a_prefix(alloc: Global, calls: u64) -> bool {
+    match stopped(alloc, THREE_INSERTS, calls) {
+        Ok((came, volume)) => leaves_a_prefix(alloc, &volume, came.entries, came.in_doubt),
+        Err(_) => false,
+    }
 }
 
 #[test]
-fn a_crash_at_any_call_leaves_a_prefix(rt: HostRuntime) -> Result<(), Fail> {
-    let alloc = rt.alloc();
+fn a_crash_at_any_call_leaves_a_prefix(rt: HostRuntime) {
     for calls in 0..OPENING_CALLS + 3 * COMMIT_CALLS + 1 {
-        for pick in 0..4 {
-            assert!(rt;
-                leaves_a_prefix(alloc, calls, pick)?,
-                "after {calls} calls, image {pick}"
-            );
-        }
+        assert!(rt; stops_at_a_prefix(rt.alloc(), calls), "after {calls} calls");
     }
-    Ok(())
 }
 
 // A record, and a transaction that changes it and makes another.
@@ -100,31 +136,44 @@ const ALL_OF_IT: &[u8] =
 
 // Whether an image opens to the records from before the transaction, or to those after it; where it was acknowledged,
 // to these.
-fn is_whole(alloc: Global, image: Image, acknowledged: bool) -> Result<bool, NoMemory> {
-    let (came, _) = over(alloc, MemVolume::of_image(image), BOTH)?;
-    let found = came.printed.as_slice();
-    Ok(found == ALL_OF_IT || !acknowledged && found == NOTHING_OF_IT)
+fn is_whole(alloc: Global, image: Image, acknowledged: bool) -> bool {
+    match over(alloc, MemVolume::of_image(image), BOTH) {
+        Ok((came, _)) => {
+            let found = came.printed.as_slice();
+            found == ALL_OF_IT || !acknowledged && found == NOTHING_OF_IT
+        }
+        Err(_) => false,
+    }
 }
 
-// The number of entries where the transaction is stopped behind so many calls, and whether an image that this leaves
-// is whole.
-fn stopped_at(alloc: Global, calls: u64, pick: u64) -> Result<(u64, bool), NoMemory> {
-    let mut volume = MemVolume::empty(alloc);
-    volume.stop_after(calls);
-    let (came, volume) = over(alloc, volume, TRANSACTION)?;
-    let whole = is_whole(alloc, volume.crash(pick)?, came.entries == 2)?;
-    Ok((came.entries, whole))
+// Whether each of four images is whole.
+fn leaves_a_whole(alloc: Global, volume: &MemVolume, acknowledged: bool) -> bool {
+    for pick in 0..4 {
+        let Ok(image) = volume.crash(pick) else {
+            return false;
+        };
+        if !is_whole(alloc, image, acknowledged) {
+            return false;
+        }
+    }
+    true
+}
+
+// Whether the transaction has made so many entries where it is stopped after so many calls, and leaves whole images.
+fn stops_whole(alloc: Global, calls: u64, entries: u64) -> bool {
+    match stopped(alloc, TRANSACTION, calls) {
+        Ok((came, volume)) => {
+            came.entries == entries && leaves_a_whole(alloc, &volume, entries == 2)
+        }
+        Err(_) => false,
+    }
 }
 
 #[test]
-fn a_commit_that_is_stopped_is_done_or_not(rt: HostRuntime) -> Result<(), Fail> {
-    let alloc = rt.alloc();
+fn a_commit_that_is_stopped_is_done_or_not(rt: HostRuntime) {
     let begun = OPENING_CALLS + COMMIT_CALLS;
-    for calls in begun..begun + COMMIT_CALLS + 1 {
-        for pick in 0..4 {
-            let entries = if calls < begun + COMMIT_CALLS { 1 } else { 2 };
-            assert_eq!(rt; stopped_at(alloc, calls, pick)?, (entries, true));
-        }
+    for calls in begun..begun + COMMIT_CALLS {
+        assert!(rt; stops_whole(rt.alloc(), calls, 1), "after {calls} calls");
     }
-    Ok(())
+    assert!(rt; stops_whole(rt.alloc(), begun + COMMIT_CALLS, 2));
 }

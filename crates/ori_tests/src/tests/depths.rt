@@ -9,7 +9,6 @@ use ori_model::Stored;
 use ori_record::{BagFieldList, RecordFault, write};
 use ori_value::{FieldList, Value, ValueList};
 use std::alloc::Global;
-use std::test::Fail;
 
 // A record of class Doc whose field `a` is a list in a list, and so on, so many deep.
 fn deep(alloc: Global, levels: u32) -> Result<Blob, NoMemory> {
@@ -21,13 +20,19 @@ fn deep(alloc: Global, levels: u32) -> Result<Blob, NoMemory> {
     Ok(bytes)
 }
 
-#[test]
-fn depths_are_read(rt: HostRuntime) -> Result<(), Fail> {
-    for (levels, is_read) in [(1, true), (64, true), (65, false), (300, false)] {
-        let bytes = deep(rt.alloc(), levels)?;
-        assert_eq!(rt; come_back(rt.alloc(), bytes.as_slice()), is_read);
+// Whether it is read and written again; none where memory ran out before.
+fn is_read(alloc: Global, levels: u32) -> Option<bool> {
+    match deep(alloc, levels) {
+        Ok(bytes) => Some(come_back(alloc, bytes.as_slice())),
+        Err(_) => None,
     }
-    Ok(())
+}
+
+#[test]
+fn depths_are_read(rt: HostRuntime) {
+    for (levels, want) in [(1, true), (64, true), (65, false), (300, false)] {
+        assert!(rt; is_read(rt.alloc(), levels) == Some(want));
+    }
 }
 
 // What a list in a list, and so on, so many deep, holds: the inmost one is empty.
@@ -57,25 +62,31 @@ fn written(alloc: Global, levels: u32) -> Result<Blob, RecordFault> {
     write(alloc, &stored, &BagFieldList::new(alloc))
 }
 
-// Whether that gives those bytes; none where it is too deep.
-fn is_written(alloc: Global, levels: u32) -> Result<Option<bool>, NoMemory> {
-    match written(alloc, levels) {
-        Ok(bytes) => Ok(Some(bytes.as_slice() == deep(alloc, levels)?.as_slice())),
-        Err(RecordFault::TooDeep) => Ok(None),
-        Err(_) => Err(NoMemory),
+// Whether these are the bytes that `deep` makes.
+fn are_deep(alloc: Global, bytes: &Blob, levels: u32) -> bool {
+    match deep(alloc, levels) {
+        Ok(want) => bytes.as_slice() == want.as_slice(),
+        Err(_) => false,
     }
 }
 
-#[test]
-fn depths_are_written(rt: HostRuntime) -> Result<(), Fail> {
-    for (levels, want) in [
-        (1, Some(true)),
-        (2, Some(true)),
-        (64, Some(true)),
-        (65, None),
-        (300, None),
-    ] {
-        assert_eq!(rt; is_written(rt.alloc(), levels)?, want);
+fn is_written(alloc: Global, levels: u32) -> bool {
+    match written(alloc, levels) {
+        Ok(bytes) => are_deep(alloc, &bytes, levels),
+        Err(_) => false,
     }
-    Ok(())
+}
+
+fn is_too_deep(alloc: Global, levels: u32) -> bool {
+    matches!(written(alloc, levels), Err(RecordFault::TooDeep))
+}
+
+#[test]
+fn depths_are_written(rt: HostRuntime) {
+    for levels in [1, 2, 64] {
+        assert!(rt; is_written(rt.alloc(), levels));
+    }
+    for levels in [65, 300] {
+        assert!(rt; is_too_deep(rt.alloc(), levels));
+    }
 }

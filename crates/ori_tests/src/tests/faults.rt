@@ -1,95 +1,110 @@
 // Runs in which a call of the source, the sink or the volume fails.
-use super::runs::{INSERT, OPENING_CALLS, over, run};
+use super::runs::{INSERT, OPENING_CALLS, RunResult, over, run};
 use super::shared::numbers;
 use ori_bytes::{Blob, NoMemory};
 use ori_volmem::{Image, MemVolume};
 use std::alloc::Global;
-use std::test::Fail;
 
 // The status where these calls of the source and the sink fail, the number of entries, and whether input is left.
-fn failing(
-    alloc: Global,
-    input: &[u8],
-    source: &[u64],
-    sink: &[u64],
-) -> Result<(u8, u64, bool), NoMemory> {
-    let (came, _) = run(alloc, MemVolume::empty(alloc), input, source, sink)?;
-    Ok((came.status, came.entries, came.is_left))
+type Ended = (u8, u64, bool);
+
+fn failing(alloc: Global, input: &[u8], source: &[u64], sink: &[u64]) -> Option<Ended> {
+    match run(alloc, MemVolume::empty(alloc), input, source, sink) {
+        Ok((came, _)) => Some((came.status, came.entries, came.is_left)),
+        Err(_) => None,
+    }
 }
 
 #[test]
-fn faults_end_a_run(rt: HostRuntime) -> Result<(), Fail> {
-    let alloc = rt.alloc();
-    assert_eq!(rt; failing(alloc, INSERT, &[0], &[])?, (3, 0, true));
-    assert_eq!(rt; failing(alloc, INSERT, &[], &[0])?, (4, 1, false));
-    Ok(())
+fn faults_end_a_run(rt: HostRuntime) {
+    assert!(rt; failing(rt.alloc(), INSERT, &[0], &[]) == Some((3, 0, true)));
+    assert!(rt; failing(rt.alloc(), INSERT, &[], &[0]) == Some((4, 1, false)));
 }
 
-#[test]
-fn a_line_is_answered_before_all_is_read(rt: HostRuntime) -> Result<(), Fail> {
-    let alloc = rt.alloc();
-    let mut input = Vec::new(alloc);
+// A thousand INSERTs.
+fn many(alloc: Global) -> Result<Blob, NoMemory> {
+    let mut input = Blob::new(alloc);
     for _ in 0..1000 {
         input.extend_from_slice(INSERT)?;
     }
-    assert_eq!(rt; failing(alloc, input.as_slice(), &[], &[0])?, (4, 1, true));
-    Ok(())
+    Ok(input)
+}
+
+// How a run of them ends whose first reply can't be written.
+fn unwritten(alloc: Global) -> Option<Ended> {
+    match many(alloc) {
+        Ok(input) => failing(alloc, input.as_slice(), &[], &[0]),
+        Err(_) => None,
+    }
 }
 
 #[test]
-fn a_volume_that_fails_is_not_opened(rt: HostRuntime) -> Result<(), Fail> {
-    let alloc = rt.alloc();
-    for call in 0..OPENING_CALLS {
-        let mut volume = MemVolume::empty(alloc);
-        volume.fail(numbers(alloc, &[call])?);
-        assert_eq!(rt; over(alloc, volume, INSERT)?.0.status, 5, "call {call}");
-    }
-    Ok(())
+fn a_line_is_answered_before_all_is_read(rt: HostRuntime) {
+    assert!(rt; unwritten(rt.alloc()) == Some((4, 1, true)));
 }
 
-// The status over a volume with this master, and no bytes in the other files.
-fn over_master(alloc: Global, master: &[u8]) -> Result<u8, NoMemory> {
-    let volume = MemVolume::of_image(Image {
+// An empty volume of which this call fails.
+fn failing_volume(alloc: Global, call: u64) -> Result<MemVolume, NoMemory> {
+    let calls = numbers(alloc, &[call])?;
+    let mut volume = MemVolume::empty(alloc);
+    volume.fail(calls);
+    Ok(volume)
+}
+
+// The status of a run over a volume.
+fn status_over(alloc: Global, volume: Result<MemVolume, NoMemory>) -> Option<u8> {
+    match over(alloc, volume.ok()?, INSERT) {
+        Ok((came, _)) => Some(came.status),
+        Err(_) => None,
+    }
+}
+
+#[test]
+fn a_volume_that_fails_is_not_opened(rt: HostRuntime) {
+    for call in 0..OPENING_CALLS {
+        let status = status_over(rt.alloc(), failing_volume(rt.alloc(), call));
+        assert!(rt; status == Some(5), "call {call}");
+    }
+}
+
+// A volume with this master, and no bytes in the other files.
+fn with_master(alloc: Global, master: &[u8]) -> Result<MemVolume, NoMemory> {
+    Ok(MemVolume::of_image(Image {
         master: Blob::from_slice(alloc, master)?,
         log_a: Blob::new(alloc),
         log_b: Blob::new(alloc),
         pages: Blob::new(alloc),
-    });
-    Ok(over(alloc, volume, INSERT)?.0.status)
+    }))
 }
 
 #[test]
-fn other_files_are_no_database(rt: HostRuntime) -> Result<(), Fail> {
-    let alloc = rt.alloc();
-    assert_eq!(rt; over_master(alloc, &[])?, 0);
-    assert_eq!(rt; over_master(alloc, &[0])?, 6);
-    assert_eq!(rt; over_master(alloc, &[0, 0])?, 6);
-    Ok(())
+fn other_files_are_no_database(rt: HostRuntime) {
+    let cases: [(&[u8], u8); 3] = [(&[], 0), (&[0], 6), (&[0, 0], 6)];
+    for (master, status) in cases {
+        let volume = with_master(rt.alloc(), master);
+        assert!(rt; status_over(rt.alloc(), volume) == Some(status));
+    }
 }
 
 const HALTING: &[u8] =
     b"1 INSERT INTO V SET a = 'b'\n1 INSERT INTO V SET a = 'b'\n1 SELECT FROM #1:0\n";
 
-// What is printed where this call behind the opening's fails, and the status, the entries, the marks and the doubtful
-// ones.
-fn halted(alloc: Global, call: u64) -> Result<(Blob, (u8, u64, usize, bool)), NoMemory> {
-    let mut volume = MemVolume::empty(alloc);
-    volume.fail(numbers(alloc, &[OPENING_CALLS.saturating_add(call)])?);
+// Whether a run prints this, with status 0, without an entry or a mark, and with one in doubt.
+fn is_halted(came: &RunResult, printed: &[u8]) -> bool {
+    (came.status, came.entries, came.marks, came.in_doubt) == (0, 0, 0, true)
+        && came.printed.as_slice() == printed
+}
+
+// Whether the run is halted where this call after the opening's fails.
+fn halts(alloc: Global, call: u64) -> Result<bool, NoMemory> {
+    let volume = failing_volume(alloc, OPENING_CALLS.saturating_add(call))?;
     let (came, _) = over(alloc, volume, HALTING)?;
-    let counts = (came.status, came.entries, came.marks, came.in_doubt);
-    Ok((came.printed, counts))
+    Ok(is_halted(&came, b"1 ERR Fault\n1 ERR Halted 1\n1 OK 0\n"))
 }
 
 #[test]
-fn a_failed_log_halts_the_run(rt: HostRuntime) -> Result<(), Fail> {
-    let alloc = rt.alloc();
+fn a_failed_log_halts_the_run(rt: HostRuntime) {
     for call in 0..4 {
-        let (printed, counts) = halted(alloc, call)?;
-        assert_eq!(rt;
-            printed.as_slice(),
-            b"1 ERR Fault\n1 ERR Halted 1\n1 OK 0\n".as_slice()
-        );
-        assert_eq!(rt; counts, (0, 0, 0, true));
+        assert!(rt; halts(rt.alloc(), call) == Ok(true), "call {call}");
     }
-    Ok(())
 }

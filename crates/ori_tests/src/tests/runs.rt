@@ -15,6 +15,8 @@ pub struct RunResult {
     pub entries: u64,
     pub marks: usize,
     pub in_doubt: bool,
+    // The entries whose fate a reopening has decided.
+    pub decided: usize,
     // Whether the source has bytes left.
     pub is_left: bool,
 }
@@ -60,6 +62,7 @@ pub fn run(
         entries: report.history.as_slice().len() as u64,
         marks: report.marks.as_slice().len(),
         in_doubt: report.doubt.is_some(),
+        decided: report.failed.as_slice().len(),
         is_left: source.read(&mut [0]).unwrap_or(0) > 0,
     };
     Ok((result, volume))

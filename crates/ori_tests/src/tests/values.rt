@@ -6,7 +6,6 @@ use ori_model::Row;
 use ori_text::row_json;
 use ori_value::{Document, FieldList, RidFieldList, Value, ValueList, link_names_rise};
 use std::alloc::Global;
-use std::test::Fail;
 
 // A row with the copy of this value alone, as it is printed.
 fn printed(alloc: Global, value: &Value) -> Result<Text, NoMemory> {
@@ -53,9 +52,8 @@ const PRINTED: &[(Sample, &str)] = &[
 ];
 
 #[test]
-fn values_are_printed(rt: HostRuntime) -> Result<(), Fail> {
-    assert_eq!(rt; misprint(rt.alloc(), PRINTED)?, None);
-    Ok(())
+fn values_are_printed(rt: HostRuntime) {
+    assert!(rt; misprint(rt.alloc(), PRINTED) == Ok(None));
 }
 
 fn named_links(alloc: Global) -> Result<Value, NoMemory> {
@@ -94,14 +92,20 @@ fn nested(alloc: Global) -> Result<Value, NoMemory> {
     Ok(Value::EmbeddedMap(map))
 }
 
+// Whether a value that was made is printed so.
+fn is_shown(alloc: Global, value: Result<Value, NoMemory>, want: &str) -> bool {
+    match value {
+        Ok(value) => shows(alloc, &value, want) == Ok(true),
+        Err(_) => false,
+    }
+}
+
 #[test]
-fn nested_values_are_printed(rt: HostRuntime) -> Result<(), Fail> {
-    let alloc = rt.alloc();
+fn nested_values_are_printed(rt: HostRuntime) {
     let links = "{\"x\":\"#1:0\",\"y\":\"#-1:-2\"}}";
-    assert!(rt; shows(alloc, &named_links(alloc)?, links)?);
+    assert!(rt; is_shown(rt.alloc(), named_links(rt.alloc()), links));
     let values = "{\"p\":[{},{\"!\":null,\"@class\":\"Doc\",\"z\":1}]}}";
-    assert!(rt; shows(alloc, &nested(alloc)?, values)?);
-    Ok(())
+    assert!(rt; is_shown(rt.alloc(), nested(rt.alloc()), values));
 }
 
 // A row with these columns, of which one is taken away, as it is printed.
@@ -114,9 +118,15 @@ fn left(alloc: Global, names: &[&str], gone: &str) -> Result<Text, NoMemory> {
     row_json(alloc, &Row { columns })
 }
 
+// Whether a row of five columns without the second, and with one of them twice, is printed in their order.
+fn is_left(alloc: Global) -> bool {
+    match left(alloc, &["name", "age", "näme", "name", ""], "age") {
+        Ok(row) => row.as_str() == "{\"\":null,\"name\":null,\"näme\":null}",
+        Err(_) => false,
+    }
+}
+
 #[test]
-fn fields_by_name(rt: HostRuntime) -> Result<(), Fail> {
-    let left = left(rt.alloc(), &["name", "age", "näme", "name", ""], "age")?;
-    assert_eq!(rt; left.as_str(), "{\"\":null,\"name\":null,\"näme\":null}");
-    Ok(())
+fn fields_by_name(rt: HostRuntime) {
+    assert!(rt; is_left(rt.alloc()));
 }

@@ -46,7 +46,7 @@ items_bytes-loop-value-preserved t c =
     items_step c.as_slice-items.result.now c.loop-value.value-index c.value-item.result
     (count_size (length c.as_slice-items.result.now)) c.loop-value.total c.in_ok-total-2.total (omega arith)
     c.value-item.is c.loop-value.invariant
-    (omega (arith, c.in_ok-total-2.ensures, c.in_ok-more.ensures, c.in_ok-value_bytes.ensures))
+    (omega (arith, c.in_ok-total-2.ensures, c.in_ok-value_bytes.ensures))
 
 pub items_bytes-returns : goal.items_bytes-returns
 items_bytes-returns t c = items_end c.as_slice-items.result.now c.loop-value.value-index c.loop-value.total
@@ -57,14 +57,7 @@ entries_bytes-loop-name-preserved t c =
     entries_step c.as_slice-pairs.result.now c.loop-name.name-index c.loop-name-item.result
     (count_size (length c.as_slice-pairs.result.now)) c.loop-name.total c.in_ok-total-2.total (omega arith)
     c.loop-name-item.is c.loop-name.invariant
-    (omega (
-      arith,
-      c.in_ok-total-2.ensures,
-      c.in_ok-more.ensures,
-      c.in_ok-named.ensures,
-      c.in_ok-text_bytes.ensures,
-      c.in_ok-value_bytes.ensures,
-    ))
+    (omega (arith, c.in_ok-total-2.ensures, c.in_ok-named_bytes.ensures, c.in_ok-value_bytes.ensures))
 
 pub entries_bytes-returns : goal.entries_bytes-returns
 entries_bytes-returns t c = entries_end c.as_slice-pairs.result.now c.loop-name.name-index c.loop-name.total
@@ -74,11 +67,4 @@ pub fields_bytes-loop-name-preserved : goal.fields_bytes-loop-name-preserved
 fields_bytes-loop-name-preserved t c =
     fields_step c.as_slice-pairs.result.now c.loop-name.name-index c.loop-name-item.result c.loop-name.total
     c.in_ok-total.total (omega arith) c.loop-name-item.is c.loop-name.invariant
-    (omega (
-      arith,
-      c.in_ok-total.ensures,
-      c.in_ok-more.ensures,
-      c.in_ok-named.ensures,
-      c.in_ok-text_bytes.ensures,
-      c.in_ok-value_bytes.ensures,
-    ))
+    (omega (arith, c.in_ok-total.ensures, c.in_ok-named_bytes.ensures, c.in_ok-value_bytes.ensures))

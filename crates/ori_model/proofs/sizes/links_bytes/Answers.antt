@@ -8,7 +8,7 @@ loop-name-preserved c =
     links_step c.as_slice-pairs.result.now c.loop-name.name-index c.loop-name-item.result
     (count_size (length c.as_slice-pairs.result.now)) c.loop-name.total c.in_ok-total-2.total (omega arith)
     c.loop-name-item.is c.loop-name.invariant
-    (rw (← c.in_ok-more.ensures) c.in_ok-total-2.ensures)
+    (omega (arith, c.in_ok-total-2.ensures, c.in_ok-text_bytes.ensures, c.rid_bytes.ensures))
 
 pub returns : goal.returns
 returns c = links_end c.as_slice-pairs.result.now c.loop-name.name-index c.loop-name.total c.args.links.now

@@ -1,7 +1,6 @@
 use Rattle.std.proofs.Common.{ℕ}
 use Rattle.ori_cover.specs.Views.{on_disk, as_read}
 use Rattle.ori_cover.proofs.Views.{disk_laws, read_laws}
-use Rattle.ori_pool.specs.declared.fault.OpFault.{OpFault}
 use Rattle.ori_pool.proofs.Contents.{no_more_then, no_more_refl, no_more_held, from_held, trimmed_contents}
 use Rattle.ori_pool.proofs.Operations.{commits_trimmed, dirty_then}
 use Rattle.ori_pool.proofs.Settled.{trimmed_dirty, trimmed_own, trimmed_bare}
@@ -9,12 +8,12 @@ use Rattle.ori_pool.proofs.committing.commit.Goals as goal
 
 pub returns-in-Err-clause-operation : goal.returns-in-Err-clause-operation
 returns-in-Err-clause-operation g c = λ none.
-    commits_trimmed on_disk disk_laws ℕ OpFault c.args.images _ _ _ _ _ _ c.in-Err.fault _ _
+    commits_trimmed on_disk disk_laws ℕ c.args.images _ _ _ _ _ _ c.in-Err.fault _ _
     (trimmed_dirty _ _ c.trim.ensures) c.in-Err.ensures.operation
 
 pub returns-in-Err-clause-read : goal.returns-in-Err-clause-read
 returns-in-Err-clause-read g c = λ none.
-    commits_trimmed as_read read_laws ℕ OpFault c.args.images _ _ _ _ _ _ c.in-Err.fault _ _
+    commits_trimmed as_read read_laws ℕ c.args.images _ _ _ _ _ _ c.in-Err.fault _ _
     (trimmed_dirty _ _ c.trim.ensures) c.in-Err.ensures.read
 
 pub returns-in-Err-clause-own : goal.returns-in-Err-clause-own

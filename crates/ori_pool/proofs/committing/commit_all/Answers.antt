@@ -2,20 +2,18 @@ use Rattle.std.proofs.Common.{ℕ, refl}
 use Rattle.std.proofs.lemmas.Result.{on_ok_weaker, on_err_weaker}
 use Rattle.ori_cover.specs.Views.{on_disk, as_read}
 use Rattle.ori_cover.proofs.Views.{disk_laws, read_laws}
-use Rattle.ori_pool.specs.declared.fault.OpFault.{OpFault}
-use Rattle.ori_pool.specs.declared.fault.OpFault.TheVariants.{NoMemory}
 use Rattle.ori_pool.proofs.Contents.{no_more_then, no_more_from}
 use Rattle.ori_pool.proofs.Operations.{commits_reserved, commits_none}
 use Rattle.ori_pool.proofs.committing.commit_all.Goals as goal
 
 pub returns-in_default-clause-operation : goal.returns-in_default-clause-operation
 returns-in_default-clause-operation g c =
-    commits_none on_disk disk_laws ℕ OpFault c.args.images _ _ _ _ _ NoMemory _ _ c.requires.needs.attached refl refl
+    commits_none on_disk disk_laws ℕ c.args.images _ _ _ _ _ _ _ c.requires.needs.attached refl refl
     c.in_default.ensures.dirty
 
 pub returns-in_default-clause-read : goal.returns-in_default-clause-read
 returns-in_default-clause-read g c =
-    commits_none as_read read_laws ℕ OpFault c.args.images _ _ _ _ _ NoMemory _ _ c.requires.needs.attached refl refl
+    commits_none as_read read_laws ℕ c.args.images _ _ _ _ _ _ _ c.requires.needs.attached refl refl
     c.in_default.ensures.dirty
 
 pub returns-clause-operation : goal.returns-clause-operation

@@ -13,5 +13,5 @@ returns-clause-read g c =
     tells_so _ _ _ _
     (λ old new was is appends. puts_record_read _ _ _ c.append.result old new c.append.ensures.whole c.requires.fits
     appends (g.met.V.Volume.reads_bytes c.append.new.volume new is _)
-    (on_ok_weaker c.append.result (λ counts. (counts.1, counts.2)) c.append.ensures.counts))
+    (on_ok_weaker c.append.result (λ counts. (counts.0, counts.1, counts.2)) c.append.ensures.counts))
     c.append.ensures.files

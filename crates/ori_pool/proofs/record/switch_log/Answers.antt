@@ -13,5 +13,5 @@ pub returns-clause-read : goal.returns-clause-read
 returns-clause-read g c =
     tells_map _ _ _ _
     (λ old new told switches. switches_log_read _ _ c.switch.result old new switches
-    (on_ok_weaker c.switch.result (λ counts. (counts.1, counts.2)) c.switch.ensures.counts))
+    (on_ok_weaker c.switch.result (λ counts. (counts.0, counts.1, counts.2)) c.switch.ensures.counts))
     c.switch.ensures.files

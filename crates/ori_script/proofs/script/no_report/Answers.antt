@@ -1,7 +1,7 @@
 use Rattle.std.proofs.Common.{◌≡◌, ◌∙◌, ap, ap₂, ℕ, List, [], map, false, None}
 use Rattle.ori_model.specs.declared.entry.Entry.{Entry}
 use Rattle.ori_model.specs.Data.{entries_of}
-use Rattle.ori_script.specs.Reports.{placed_of}
+use Rattle.ori_script.specs.Pasts.{placed_of}
 use Rattle.ori_script.specs.Top.{ReportData, empty_report}
 use Rattle.ori_script.proofs.Outcomes.{still_crashes}
 use Rattle.ori_script.proofs.script.no_report.Goals as goal

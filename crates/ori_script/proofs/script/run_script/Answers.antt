@@ -1,7 +1,12 @@
-use Rattle.std.proofs.Common.{refl, sym, ◌∙◌, None, arith}
-use Rattle.ori_engine.specs.Reopening.{told_now}
+use Rattle.std.proofs.Common.{◌≡◌, Option, Some, None, IfSome, refl, sym, ap, ◌∙◌, subst, arith}
+use Rattle.std.specs.Prelude.{option_map}
+use Rattle.ori_bytes.specs.declared.causes.Causes.{Causes}
+use Rattle.ori_volume.specs.Story.{Story}
+use Rattle.ori_model.specs.Data.{entry_of}
+use Rattle.ori_script.specs.Pasts.{earlier_of}
 use Rattle.ori_script.specs.Top.{outside}
-use Rattle.ori_script.proofs.Outcomes.{run_over, faults_later, log_faults_later, end_of_run, not_opened, was_run}
+use Rattle.ori_script.proofs.Going.{some_by}
+use Rattle.ori_script.proofs.Outcomes.{not_opened, was_run, volume_in, some_base}
 use Rattle.ori_script.proofs.script.run_script.Goals as goal
 
 pub returns-in-Err-clause-promises : goal.returns-in-Err-clause-promises
@@ -22,26 +27,25 @@ returns-clause-promises g c =
     let seen = outside g.V.Volume.files g.V.Volume.story g.V.Volume.faults g.V.Volume.log_faults g.S.Source.left
     g.S.Source.faults g.K.Sink.taken g.K.Sink.faults in
     let old = seen c.args.volume c.args.source.now c.args.sink.now in
-    let new = seen c.outcome.result.volume c.run_lines-status.new.source c.run_lines-status.new.sink in
+    let out = c.run_openings-status in
+    let new = seen out.result.volume out.new.source out.new.sink in
     let start = c.in-Ok.ensures in
-    let ran = c.run_lines-status.ensures in
-    let out = c.outcome.ensures in
-    let ended = ran.run (g.V.Volume.files c.args.volume) start.found in
-    rw out.status (was_run old new c.run_lines-status.result _ _ _ ended.run
-    (run_over old new _ _ _ _ _ _ start.found out.report start.since ran.stays.opening out.counts ended
-    c.is_initial-was_empty.ensures)
-    (out.crash (told_now old.files old.story) (ran.stays.sound (told_now old.files old.story) start.sound))
-    start.database ran.source_cause ran.sink_cause
+    let engine = c.in-Ok.engine in
+    was_run old new out.result.status _ (earlier_of out.new.past) c.is_initial-was_empty.result
+    (option_map entry_of out.result.doubt) c.report.ensures
+    (out.ensures.over (volume_in old)
+    (some_by (g.V.Volume.story c.args.volume) _ (λ s is. (g.met.V.Volume.tells_one c.args.volume s is).files_now))
     (record {
-      source = ran.source_later;
-      sink = ran.sink_later;
-      volume = faults_later old new c.run_lines-status.result _ _ _ _ _ start.found out.report start.since
-          ran.stays.opening out.counts;
-      log = log_faults_later old new c.run_lines-status.result _ _ _ _ _ start.found out.report start.since
-          ran.stays.opening out.counts;
+      started = start.found;
+      fresh = start.fresh;
+      no_fault = ap (λ (x : Causes). x.fault) start.causes;
+      since = start.sound;
+      since_end = start.since_end;
+      opened_since = start.since;
+      opened_at = some_by (g.V.Volume.story engine.volume) _
+          (λ s is. start.at_end.moment ∙ g.met.V.Volume.counts_past engine.volume s is);
+      stands = start.whole;
+      read = some_by (g.V.Volume.story engine.volume) _ (λ s is. g.met.V.Volume.reads_as_image engine.volume s is);
     }))
-
-pub returns-clause-no_words : goal.returns-clause-no_words
-returns-clause-no_words g c = λ one.
-    (end_of_run _ _ _ _ _ _ _ _ (c.run_lines-status.ensures.run None (λ found none. absurd none)).run).no_words
-    (sym c.outcome.ensures.status ∙ one)
+    (λ found finds. some_base c.is_initial-was_empty.ensures (start.found found finds).base_is) start.database
+    out.ensures.source_cause out.ensures.sink_cause out.ensures.source_later out.ensures.sink_later

@@ -1,7 +1,8 @@
-use Rattle.std.proofs.Common.{◌∙◌, ap, subst}
+use Rattle.std.proofs.Common.{◌∙◌, sym, ap, subst}
 use Rattle.std.proofs.lemmas.Bool.{false≢true}
 use Rattle.ori_spec_texts.specs.Statement.{is_field_name, IsLiteral}
-use Rattle.ori_session.proofs.HandForms.{setting_parts, setting_tail}
+use Rattle.ori_session.specs.Statements.{literal_of}
+use Rattle.ori_session.proofs.HandForms.{setting_parts, setting_tail, is_setting}
 use Rattle.ori_session.proofs.hand.read_setting.Goals as goal
 
 pub returns-then-not-is_field_name : goal.returns-then-not-is_field_name
@@ -23,3 +24,9 @@ returns-in_err-value c =
     let same = setting_tail c.args.text.now c.in_ok-name.name.now c.in_ok-name.rest.now c.in_ok-after.field-0.now name
     value c.in_ok-name.ensures c.in_ok-after.ensures h in
     c.in_err-value.ensures value (subst (λ t. IsLiteral t value) same h.2))
+
+pub returns : goal.returns
+returns c =
+    is_setting c.args.text.now c.in_ok-name.name.now c.in_ok-name.rest.now c.in_ok-after.field-0.now
+    (literal_of c.in_ok-value.value) c.in_ok-name.ensures c.in_ok-after.ensures (sym c.if-not-is_field_name.ensures)
+    c.in_ok-value.ensures

@@ -1,11 +1,14 @@
-use Rattle.std.proofs.Common.{◌<◌, subst, sym, ◌∙◌}
+use Rattle.std.proofs.Common.{◌≡◌, ◌<◌, subst, sym, ◌∙◌}
 use Rattle.ori_volume.proofs.Known.{some_then}
 use Rattle.ori_bytes.specs.declared.limits.TheConstants.{PARTITIONS}
 use Rattle.ori_cover.specs.Dirty.{DirtyPage}
 use Rattle.ori_pool.specs.Held.{dirty_of, dirty_with}
 use Rattle.ori_turns.specs.Seats.{Last, told_at}
 use Rattle.ori_turns.specs.Checkpointed.{Checkpointed}
-use Rattle.ori_turns.proofs.Synced.{told_kept, told_each, ok_both, no_dirty, not_none}
+use Rattle.ori_turns.proofs.Synced.{told_kept, told_each, told_so, ok_both, ok_so, no_dirty, not_none}
+use Rattle.ori_turns.proofs.Untouched.{untouched}
+use Rattle.ori_pool.specs.declared.device.Device.{Device}
+use Rattle.ori_pool.specs.declared.fault.TendFault.TheVariants.{Halted, Busy}
 use Rattle.ori_turns.proofs.Finished.{made_map}
 use Rattle.ori_turns.proofs.checkpointing.checkpoint.Goals as goal
 
@@ -36,3 +39,28 @@ returns-clause-clean g c = ok_both c.try_checkpoint-done.result _ _ _
     (g.F.Frames.seat c.try_checkpoint-done.new.frames) (g.F.Frames.seat c.give_parts.new.frames)
     c.give_parts.ensures.gave))
     c.try_checkpoint-done.ensures.all c.try_checkpoint-done.ensures.clean
+
+pub returns-clause-same : goal.returns-clause-same
+returns-clause-same g c = λ turn is.
+    let before = c.try_checkpoint-done.ensures.same turn is in
+    record {
+      last = c.give_parts.ensures.gave.last ∙ before.last;
+      told = untouched c.try_checkpoint-done.new.hand.parts.items (g.F.Frames.seat c.try_checkpoint-done.new.frames)
+          (g.F.Frames.seat c.give_parts.new.frames) c.give_parts.ensures.gave
+          (g.met.F.Frames.eight c.try_checkpoint-done.new.frames).1 (g.met.F.Frames.eight c.give_parts.new.frames).1
+          (c.try_checkpoint-done.ensures.untouched (Busy turn) is (λ e. cc)) ∙ before.told;
+    }
+
+pub returns-clause-halted : goal.returns-clause-halted
+returns-clause-halted g c = λ at is.
+    untouched c.try_checkpoint-done.new.hand.parts.items (g.F.Frames.seat c.try_checkpoint-done.new.frames)
+    (g.F.Frames.seat c.give_parts.new.frames) c.give_parts.ensures.gave
+    (g.met.F.Frames.eight c.try_checkpoint-done.new.frames).1 (g.met.F.Frames.eight c.give_parts.new.frames).1
+    (c.try_checkpoint-done.ensures.untouched (Halted at) is (λ e. cc)) ∙ c.try_checkpoint-done.ensures.halted at is
+
+pub returns-clause-ended : goal.returns-clause-ended
+returns-clause-ended g c = ok_so c.try_checkpoint-done.result _ _
+    (λ at ended. told_so (λ k. k < PARTITIONS) c.try_checkpoint-done.new.hand.parts.items
+    (λ (d : Device _). at ≡ g.V.Volume.moment d.volume) (g.F.Frames.seat c.try_checkpoint-done.new.frames)
+    (g.F.Frames.seat c.give_parts.new.frames) c.give_parts.ensures.gave ended)
+    c.try_checkpoint-done.ensures.ended

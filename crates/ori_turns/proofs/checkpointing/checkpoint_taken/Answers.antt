@@ -12,7 +12,9 @@ use Rattle.ori_turns.specs.Caches.{GivesCache}
 use Rattle.ori_turns.specs.Hands.{EachHeld, HandIs}
 use Rattle.ori_turns.specs.Works.{LogWork, seen}
 use Rattle.ori_turns.proofs.Synced.{each_kept, held_kept, hand_stays, no_more, pool_own}
-use Rattle.ori_turns.proofs.Finished.{after_checkpoint, moments_of, some_at, ok_then, rose_from}
+use Rattle.ori_turns.proofs.Marking.{same_then}
+use Rattle.ori_turns.proofs.Finished.{after_checkpoint, moments_of, some_at, ok_then, err_then, rose_from}
+use Rattle.ori_turns.proofs.Finished.{halted_same, never_busy}
 use Rattle.ori_turns.proofs.checkpointing.checkpoint_taken.Goals as goal
 
 pub checkpoint-done-requires-clause-open : goal.checkpoint-done-requires-clause-open
@@ -36,6 +38,9 @@ give_device-requires-clause-rule g c =
                   ap (λ d. seen g.V.Volume.story g.V.Volume.files g.V.Volume.faults g.V.Volume.log_faults d) stays.1;
               hand = ap (λ h. h.parts.items) stays.2;
             };
+        log = c.checkpoint-done.ensures.answers.kept;
+        faults = c.checkpoint-done.ensures.answers.cause.later;
+        log_faults = c.checkpoint-done.ensures.answers.later;
         tended = c.checkpoint-done.ensures.tended;
       },
     ))))
@@ -65,6 +70,9 @@ returns-clause-rule g c =
                   ap (λ d. seen g.V.Volume.story g.V.Volume.files g.V.Volume.faults g.V.Volume.log_faults d) stays.1;
               hand = ap (λ h. h.parts.items) stays.2;
             };
+        log = c.checkpoint-done.ensures.answers.kept;
+        faults = c.checkpoint-done.ensures.answers.cause.later;
+        log_faults = c.checkpoint-done.ensures.answers.later;
         tended = c.checkpoint-done.ensures.tended;
       },
     ))))
@@ -95,6 +103,12 @@ returns-clause-crash g c =
           ap (λ (d : Device _). g.V.Volume.log_faults d.volume) stays.1 ∙ last.2,
         );
       },
+      c.checkpoint-done.ensures.answers.ended,
+      λ at is. halted_same c.checkpoint-done.result _ _ _ c.in_ok-device.device.halted _ _ at is
+          c.checkpoint-done.ensures.answers.halts
+          (λ h halted. let stays = c.checkpoint-done.ensures.halted h halted in (stays.1, stays.2)),
+      λ turn is. never_busy c.checkpoint-done.result _ _ _ c.in_ok-device.device.halted _ turn is
+          c.checkpoint-done.ensures.answers.halts (λ h halted. (c.checkpoint-done.ensures.halted h halted).0),
       λ cache gives is.
           let took = c.in_ok-device.ensures.gives cache gives in
           let before : HandIs took.0 c.args.hand.now.parts.items = hand_stays (g.F.Frames.seat c.args.frames.now)
@@ -141,7 +155,8 @@ returns-clause-gives g c = λ cache gives is.
       done.1 ∙ took.1.same.pages,
       c.give_device.ensures.gives took.0 done.0 took.2 done.2 done.3,
       done.4,
-      done.5,
+      (done.5, err_then c.checkpoint-done.result _ _ (same_then cache took.0 done.0 took.1.same) done.6),
+      tt,
     )
 
 pub checkpoint-done-requires-clause-own : goal.checkpoint-done-requires-clause-own

@@ -7,7 +7,8 @@ use Rattle.ori_part.specs.Parts.{PartData, marked, unwritten_page}
 use Rattle.ori_pool.specs.Held.{dirty_of, dirty_place}
 use Rattle.ori_turns.specs.Flushes.{MarksFirst}
 use Rattle.ori_turns.specs.Seats.{Last}
-use Rattle.ori_turns.proofs.Told.{told_before, told_after, told_pair}
+use Rattle.ori_turns.proofs.Told.{told_before, told_after, told_pair, told_unmarked}
+use Rattle.ori_turns.proofs.Synced.{err_is}
 use Rattle.ori_turns.proofs.flushing.flush_one.Goals as goal
 
 no_last : Last
@@ -31,7 +32,7 @@ returns-in-Ok-clause-crash g c =
           (g.F.Frames.seat c.flush_page-done.new.frames) (g.F.Frames.seat c.give_part-2.new.self) c.in-Some.ensures.seat
           wrote.3 c.give_part-2.ensures.seat,
       subst (λ (r : Result (Unit {0}) Failed). Tells (WritesHome page dirty.0 r) (g.V.Volume.story wrote.0.volume)
-          (g.V.Volume.story wrote.1.volume)) c.in-Ok.is (wrote.7 dirty.0 is),
+          (g.V.Volume.story wrote.1.volume)) c.in-Ok.is (wrote.10 dirty.0 is),
     )
 
 pub returns-in-Err-clause-crash : goal.returns-in-Err-clause-crash
@@ -52,7 +53,7 @@ returns-in-Err-clause-crash g c =
           (g.F.Frames.seat c.flush_page-done.new.frames) (g.F.Frames.seat c.give_part-2.new.self) c.in-Some.ensures.seat
           wrote.3 c.give_part-2.ensures.seat,
       subst (λ (r : Result (Unit {0}) Failed). Tells (WritesHome page dirty.0 r) (g.V.Volume.story wrote.0.volume)
-          (g.V.Volume.story wrote.1.volume)) c.in-Err.is (wrote.7 dirty.0 is),
+          (g.V.Volume.story wrote.1.volume)) c.in-Err.is (wrote.10 dirty.0 is),
     )
 
 marks_first : (p q : PartData) (page : ℕ) → unwritten_page p.places ≡ Some page
@@ -73,3 +74,12 @@ returns-in-Ok-clause-marked g c = λ is.
     c.requires.part (g.F.Frames.seat c.args.frames.now) (g.F.Frames.seat c.take_part.new.self)
     (g.F.Frames.seat c.flush_page-done.new.frames) (g.F.Frames.seat c.give_part-2.new.self) c.in-Some.ensures.seat
     wrote.3 c.give_part-2.ensures.seat (g.met.F.Frames.eight c.args.frames.now).1 c.in-Some.ensures.told
+
+pub returns-in-Err-clause-unmarked : goal.returns-in-Err-clause-unmarked
+returns-in-Err-clause-unmarked g c = λ is.
+    let wrote = c.in-Some-done.ensures.crash in
+    told_unmarked c.args.part c.in-Some.held c.flush_page-done.new.held wrote.0 wrote.1 _
+    (err_is c.in-Some-done.wrote _ _ c.in-Err.is c.in-Some-done.ensures.err)
+    (g.F.Frames.seat c.args.frames.now) (g.F.Frames.seat c.take_part.new.self)
+    (g.F.Frames.seat c.flush_page-done.new.frames) (g.F.Frames.seat c.give_part-2.new.self) c.in-Some.ensures.seat
+    wrote.3 c.give_part-2.ensures.seat c.in-Some.ensures.told

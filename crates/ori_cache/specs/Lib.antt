@@ -1,0 +1,4 @@
+pub mod Reads
+pub mod Ready
+pub mod ReadLaws
+pub mod Pools

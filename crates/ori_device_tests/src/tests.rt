@@ -1,0 +1,7 @@
+// Tests by subject.
+mod logs;
+mod maps;
+mod pages;
+mod pool;
+mod spaces;
+mod volumes;

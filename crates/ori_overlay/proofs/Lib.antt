@@ -1,0 +1,6 @@
+mod Changing
+mod Counting
+mod Freeing
+mod Imaging
+mod Shown
+mod Stepping

@@ -1,0 +1,39 @@
+use Rattle.std.proofs.Common.{◌≤◌, ◌-◌}
+use Rattle.ori_bytes.specs.declared.limits.TheConstants.{MAX_INPUT_BYTES}
+use Rattle.ori_engine.specs.States.{kept_of, state_of}
+use Rattle.ori_engine.specs.Openings.{opening_of}
+use Rattle.ori_engine.specs.Reopening.{IsKeptSince}
+use Rattle.ori_script.specs.Pasts.{earlier_of, IsReady}
+use Rattle.ori_script.specs.Keeping.{store_behind, sessions_of}
+use Rattle.ori_script.specs.Openings.{VolumeData, EngineData, volume_data, TellsOne, Begins, StandsAt}
+use Rattle.ori_script.proofs.script.run_openings.Given as goal
+
+-- an opening stands behind the earlier ones, whose lines have their answers
+abbrev pub invariant-openings : goal.invariant-openings
+invariant-openings g l = record {
+  stands : (entry : VolumeData) → TellsOne entry.told
+      → Begins entry (record {
+        state = state_of l.initial.engine.kept (opening_of l.initial.engine.opened);
+        causes = l.initial.engine.causes;
+        holds = λ first. IsKeptSince (kept_of l.initial.engine.kept) first (g.V.Volume.files l.initial.engine.volume)
+            (g.V.Volume.story l.initial.engine.volume);
+      }) (volume_data g.V.Volume.files g.V.Volume.story g.V.Volume.faults g.V.Volume.log_faults
+      l.initial.engine.volume)
+      → StandsAt entry (g.S.Source.left l.initial.source) (g.S.Source.left l.source)
+      (g.K.Sink.taken l.initial.sink) (g.K.Sink.taken l.sink) l.reader (record {
+        store = store_behind (earlier_of l.past) (state_of l.engine.kept (opening_of l.engine.opened)) l.engine.causes;
+        sessions = sessions_of l.sessions;
+      }) (earlier_of l.past) (record {
+        state = state_of l.engine.kept (opening_of l.engine.opened);
+        causes = l.engine.causes;
+        holds = λ first. IsKeptSince (kept_of l.engine.kept) first (g.V.Volume.files l.engine.volume)
+            (g.V.Volume.story l.engine.volume);
+      });
+  ready : IsReady l.past (state_of l.engine.kept (opening_of l.engine.opened));
+  within : l.reader.given ≤ MAX_INPUT_BYTES;
+  source_later : g.S.Source.faults l.initial.source ≤ g.S.Source.faults l.source;
+  sink_later : g.K.Sink.faults l.initial.sink ≤ g.K.Sink.faults l.sink;
+}
+
+abbrev pub decreases-openings : goal.decreases-openings
+decreases-openings g l = MAX_INPUT_BYTES - l.reader.given
