@@ -156,9 +156,9 @@ impl<'a, V: Volume, F: Frames<V> + Drop> AtomicOp<'a, V, F> {
     /// pages, or all where a checkpoint is due, puts the pages into the log as one record, and makes them dirty; the
     /// answer is the volume's moment when the append ended.
     ///
-    /// `Busy` comes only where another handle held a turn, and nothing has changed then, as after `NoMemory` and
-    /// `Halted`. A fault halts the device where log work failed: with `doubt`, the number of records that there may be
-    /// now, it was the append.
+    /// `Busy` comes only where another handle held a turn. After a refusal the pages are those from before, and after
+    /// `NoMemory` and `Halted` the device is as it was. A fault halts the device where log work failed: with `doubt`,
+    /// the number of records that there may be now, it was the append.
     pub fn commit(self) -> Result<u64, OpFault>
         requires { number_of self.pool.now.overlay.changes self.pool.now.overlay.source.count ≤ MAX_WEIGHT }
         ensures committed { let old = self.entry.pool.now in let new = self.exit.0.now in
