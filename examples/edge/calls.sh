@@ -14,6 +14,7 @@ calls() {
         s/^openat\(.* = [0-9]+<.*\/(db[a-z_/]*)>$/open \1/
         s/^(flock|fsync|fdatasync)\([0-9]+<.*\/(db[a-z_/]*)>(, ([A-Z_|]*))?\) = 0$/\1 \2 \4/
         s/^pwrite64\([0-9]+<.*\/(db[a-z_/]*)>.*$/write \1/
+        s/^ftruncate\([0-9]+<.*\/(db[a-z_/]*)>.*$/cut \1/
         s/ +$//
         p
     }
@@ -24,3 +25,7 @@ calls </dev/null
 echo "two commits"
 calls <<<"1 INSERT INTO V SET n = 1
 1 INSERT INTO V SET n = 2"
+echo "the steps"
+calls <<<"! flush 1
+! settle
+! checkpoint"

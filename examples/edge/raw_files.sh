@@ -11,3 +11,8 @@ for name in master log_b pages; do bytes $name 100; done
 bytes log_a 9
 od -An -tx1 -j 8209 -N 1 db/log_a
 grep -c -a Ann db/log_a
+# Both pages at home, each at its place, and the other log in use, with no record.
+run db script <<<"! checkpoint"
+for name in master log_b pages; do bytes $name 16; done
+od -An -tx1 -j 4096 -N 32 db/pages
+stat -c %s db/pages

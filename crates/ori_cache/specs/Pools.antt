@@ -1,7 +1,6 @@
 -- What the calls of an opened cache do to its pages.
-use Rattle.std.specs.Prelude.{◌≡◌, ◌⊎◌, ◌≤◌, ◌<◌, ℕ, Bool, false, List, length, Option, None, Some, is_some, Result}
-use Rattle.std.specs.Prelude.{Ok, Err}
-use Rattle.std.specs.Prelude.{slice_index_or, IfOk, IsErrOf, ⊤}
+use Rattle.std.specs.Prelude.{◌≡◌, ◌≢◌, ◌⊎◌, ◌≤◌, ◌<◌, ℕ, Bool, false, List, length, Option, None, Some, is_some}
+use Rattle.std.specs.Prelude.{Result, Ok, Err, slice_index_or, IfOk, IsErrOf, ⊤}
 use Rattle.ori_volume.specs.Disk.{Files}
 use Rattle.ori_volume.specs.Story.{Story, Tells}
 use Rattle.ori_log.specs.Log.{ImageData}
@@ -13,12 +12,13 @@ use Rattle.ori_pool.specs.declared.fault.OpFault.TheVariants as op
 use Rattle.ori_turns.specs.declared.known.Known.{Known}
 use Rattle.ori_turns.specs.declared.opening.Opening.{Opening}
 use Rattle.ori_turns.specs.declared.opening.StartFault.{StartFault}
-use Rattle.ori_turns.specs.Seats.{Seat, IsTold, TurnHeld, last_of}
+use Rattle.ori_turns.specs.Seats.{Seat, IsTold, NothingChanged, TurnHeld, last_of}
 use Rattle.ori_turns.specs.Caches.{Cache, SamePages}
 use Rattle.ori_turns.specs.Committed.{CommitsCache, IfDone, IsWhole, StaysAs, WasCommitted}
 use Rattle.ori_overlay.specs.declared.changes.Changes.{Changes}
 use Rattle.ori_overlay.specs.Changed.{Shows, number_of}
 use Rattle.ori_cache.specs.Reads.{IsSame, ReadsFrames}
+use Rattle.ori_cache.specs.Ready.{CacheGives}
 
 -- no partition is held
 abbrev pub IsEmpty : List (Option PartData) → Type 0
@@ -35,6 +35,14 @@ answered (Err back) opening = Err back.1
 abbrev pub turns_after : {P F : Type 0} → Result P (F × StartFault) → (P → F) → F
 turns_after (Ok pool) turns = turns pool
 turns_after (Err back) turns = back.0
+
+-- ---- an operation
+
+-- Over the pages that the turns give, which are so many, changes that show pages show these after the step.
+abbrev pub StillShows : {F : Type 0} → (F → Cache → Type 0) → F → ℕ → Changes → Changes
+    → (List (List ℕ) → List (List ℕ)) → Type 0
+StillShows shows frames number old new step = (base pages : List (List ℕ)) → CacheGives shows number frames base
+    → Shows old base pages → Shows new base (step pages)
 
 -- ---- a commit
 
@@ -84,9 +92,18 @@ pub record CommitsPool {V F : Type 0} (holds : V → Option Files) (tells : V �
       × ((cache : Cache) (put : List (List ℕ)) → shows old cache → length cache.pages ≡ old_count
       → Shows changes cache.pages put
       → Tells (IsWhole cache.pages put done) (tells taken.volume) (tells given.volume)))
-  -- The pages are those of the operation after Ok, all at once, and there are so many; else those from before.
+  -- it is refused for a turn as it was
+  pub same : 0 < number_of changes old_count → (turn : ℕ) → IsErrOf result (op.Busy turn)
+      → NothingChanged (seat_of old) (seat_of new)
+  -- only pages that are others are in doubt
+  pub other : (doubt : ℕ) → IsErrOf result (op.Fault (Some doubt)) → (cache : Cache) (put : List (List ℕ))
+      → shows old cache → length cache.pages ≡ old_count → Shows changes cache.pages put → put ≢ cache.pages
+  -- The pages are those of the operation after Ok, all at once, and there are so many; else those from before. While
+  -- nothing is halted the tail's records are counted.
   pub gives : (cache : Cache) (put : List (List ℕ)) → shows old cache → length cache.pages ≡ old_count
       → Shows changes cache.pages put
       → (now : Cache) × shows new now
       × CommitsOperation (number_of changes old_count) old_known.due put result cache now
       × (length now.pages ≡ new_count)
+      × ((old_known.halted ≡ None → length cache.records ≡ old_known.tail)
+      → new_known.halted ≡ None → length now.records ≡ new_known.tail)

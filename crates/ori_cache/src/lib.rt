@@ -3,6 +3,7 @@
 #![tactic(auto)]
 
 mod home;
+mod looking;
 mod operation;
 mod pool;
 mod reading;

@@ -1,11 +1,13 @@
 // An operation over the cache.
-ghost use Rattle.std.specs.Prelude.{◌≡◌, ◌⊎◌, ◌≤◌, ◌<◌, ℕ, List, length, None, Some, Ok, Err, IfOk, OnOk, OnErr};
-ghost use Rattle.std.specs.Prelude.{IsErrOf, Option, ⊤};
+ghost use Rattle.std.specs.Prelude.{◌≡◌, ◌≢◌, ◌≤◌, ◌<◌, ◌+◌, ℕ, List, [], ◌∷◌, ◌++◌, length, None, Some, Ok, Err};
+ghost use Rattle.std.specs.Prelude.{IfOk, IfErr, OnOk, OnErr, IsErrOf, Option, ⊤};
 ghost use Rattle.ori_bytes.specs.declared.limits.TheConstants.{MAX_WEIGHT, MAX_PAGES};
 ghost use Rattle.ori_volume.specs.Disk.{Files};
 ghost use Rattle.ori_volume.specs.Story.{Tells};
 ghost use Rattle.ori_log.specs.Images.{AreRising};
 ghost use Rattle.ori_cover.specs.Given.{ArePut};
+ghost use Rattle.ori_page.specs.Pages.{owner_of};
+ghost use Rattle.ori_page.specs.declared.fault.PageFault.{PageFault};
 ghost use Rattle.ori_pool.specs.declared.device.Device.{Device};
 ghost use Rattle.ori_pool.specs.declared.fault.OpFault.{OpFault};
 ghost use Rattle.ori_turns.specs.Seats.{IsTold, NothingChanged, TurnHeld, last_of};
@@ -13,13 +15,13 @@ ghost use Rattle.ori_turns.specs.Caches.{Cache};
 ghost use Rattle.ori_turns.specs.Committed.{CommitsCache, IfDone, IsWhole, StaysAs, WasCommitted};
 ghost use Rattle.ori_overlay.specs.Over.{founded};
 ghost use Rattle.ori_overlay.specs.Changed.{IsBegun, Shows, number_of};
-ghost use Rattle.ori_cache.specs.Pools.{CommitsPool, IsOkOrBusy};
+ghost use Rattle.ori_cache.specs.Pools.{CommitsPool, IsOkOrBusy, StillShows};
 ghost use Rattle.ori_cache.specs.Reads.{IsSame, ReadsFrames};
 
 use crate::Pool;
 use crate::reading::read_moment;
 use ori_log::ImageList;
-use ori_page::PageSpace;
+use ori_page::{Page, PageFault, PageSpace};
 use ori_pool::OpFault;
 use ori_turns::{Frames, commit};
 use ori_volume::Volume;
@@ -149,6 +151,27 @@ impl<'a, V: Volume, F: Frames<V> + Drop> AtomicOp<'a, V, F> {
         ensures { result ≡ number_of self.now.pool.now.overlay.changes self.now.pool.now.overlay.source.count }
     {
         self.pool.overlay.changed()
+    }
+
+    /// Puts a page behind the last.
+    pub fn push(&mut self, content: Page) -> Result<u32, PageFault>
+        requires room { ⟦<AtomicOp<'a, V, F> as PageSpace>⟧.count self.old < MAX_PAGES }
+        requires owner { owner_of content ≢ 0 }
+        ensures shows { OnOk result (StillShows F.gives self.old.pool.now.overlay.source.frames
+            self.old.pool.now.overlay.source.count self.old.pool.now.overlay.changes
+            self.new.pool.now.overlay.changes (λ pages. pages ++ content ∷ [])) }
+        ensures pages { OnOk result ((pages : List (List ℕ)) → ⟦<AtomicOp<'a, V, F> as PageSpace>⟧.gives self.old pages
+            → ⟦<AtomicOp<'a, V, F> as PageSpace>⟧.gives self.new (pages ++ content ∷ [])) }
+        ensures page { IfOk result (λ page. (page ≡ ⟦<AtomicOp<'a, V, F> as PageSpace>⟧.count self.old)
+            × (⟦<AtomicOp<'a, V, F> as PageSpace>⟧.count self.new
+            ≡ ⟦<AtomicOp<'a, V, F> as PageSpace>⟧.count self.old + 1)) }
+        ensures fault { IfErr result (λ fault. fault ≡ PageFault.NoMemory) }
+        ensures keeps { ⟦<AtomicOp<'a, V, F> as PageSpace>⟧.keeps self.old self.new }
+        ensures causes { ⟦<AtomicOp<'a, V, F> as PageSpace>⟧.causes self.new
+            ≡ ⟦<AtomicOp<'a, V, F> as PageSpace>⟧.causes self.old }
+    {
+        let pool = &mut *self.pool;
+        Ok(pool.overlay.push(content)?)
     }
 
     /// Commits the changed pages, all at once. Where nothing was changed no call of the device is made, and the answer

@@ -1,5 +1,5 @@
 // The cache of an opened volume.
-ghost use Rattle.std.specs.Prelude.{◌≡◌, ◌⊎◌, ◌≤◌, ◌<◌, ℕ, List, length, true, None, Some, Ok, Err, IsSome, is_some};
+ghost use Rattle.std.specs.Prelude.{◌≡◌, ◌⊎◌, ◌≤◌, ◌<◌, ℕ, List, true, false, None, Some, Ok, Err, is_some};
 ghost use Rattle.std.specs.Prelude.{IfOk, IfErr, OnOk, OnErr, IsErrOf};
 ghost use Rattle.std.proofs.Props.{props};
 ghost use Rattle.ori_bytes.specs.declared.limits.TheConstants.{PARTITIONS, MAX_WEIGHT};
@@ -25,6 +25,7 @@ ghost use Rattle.ori_overlay.specs.Changed.{IsBegun};
 ghost use Rattle.ori_cache.specs.Pools.{IsEmpty, answered, turns_after};
 
 use crate::Cached;
+use crate::looking::has_unwritten;
 use ori_overlay::Overlay;
 use ori_page::Page;
 use ori_pool::{Hand, TendFault};
@@ -66,6 +67,10 @@ impl<V: Volume, F: Frames<V> + Drop> Pool<V, F> {
         ensures begun { IfOk result (λ pool. IsBegun pool.overlay.source.count pool.overlay.changes) }
         ensures head { IfOk result (λ pool. pool.overlay.changes.head ≡ head) }
         ensures unhalted { IfOk result (λ pool. pool.known.halted ≡ None) }
+        ensures uncounted { IfOk result (λ pool. pool.overlay.source.causes
+            ≡ record { device = 0; fault = 0; busy = 0; damaged = 0 }) }
+        ensures counts { IfOk result (λ pool. (pool.opening.faults ≡ (F.seat pool.overlay.source.frames).last.faults)
+            × (pool.opening.log_faults ≡ (F.seat pool.overlay.source.frames).last.log_faults)) }
         ensures ended { IfOk result (λ pool. IsTold (λ told. pool.opening.moment ≡ V.moment told.device.volume)
             (F.seat pool.overlay.source.frames)) }
         ensures crash { let done = answered result (λ pool. pool.opening) in
@@ -195,6 +200,8 @@ impl<V: Volume, F: Frames<V> + Drop> Pool<V, F> {
         ensures none { IfOk result (λ wrote. IsTold
             (λ told. wrote ≡ is_some (unwritten_page (told_at told part).places))
             (F.seat self.old.overlay.source.frames)) }
+        ensures idle { result ≡ Ok false → IsTold (λ was. (F.seat self.new.overlay.source.frames).told
+            ≡ (F.seat self.old.overlay.source.frames).told) (F.seat self.old.overlay.source.frames) }
         ensures marked { result ≡ Ok true → IsTold (λ was. IsTold (λ now. MarksFirst (told_at was part)
             (told_at now part)) (F.seat self.new.overlay.source.frames)) (F.seat self.old.overlay.source.frames) }
         ensures crash { let old = self.old.overlay.source.frames in let new = self.new.overlay.source.frames in
@@ -206,6 +213,12 @@ impl<V: Volume, F: Frames<V> + Drop> Pool<V, F> {
         ensures gives { (cache : Cache) → F.gives self.old.overlay.source.frames cache
             → (now : Cache) × SamePages cache now × F.gives self.new.overlay.source.frames now }
     {
+        let Some(some) = has_unwritten(&mut self.overlay.source.frames, part) else {
+            return Err(TendFault::Busy { turn: part });
+        };
+        if !some {
+            return Ok(false);
+        }
         flush_one(&mut self.overlay.source.frames, part, gate)
     }
 
@@ -230,6 +243,13 @@ impl<V: Volume, F: Frames<V> + Drop> Pool<V, F> {
         ensures { result ≡ self.now.opening.moment }
     {
         self.opening.moment
+    }
+
+    /// What the opening found.
+    pub fn opening(&self) -> Opening
+        ensures { result ≡ self.now.opening }
+    {
+        self.opening
     }
 
     /// How many calls of the volume had failed as log work failed, where it has failed since the opening.

@@ -1,8 +1,10 @@
 // The pages of the cache, as an operation reads them.
-ghost use Rattle.std.specs.Prelude.{◌≡◌, ◌<◌, ◌≤◌};
+ghost use Rattle.std.specs.Prelude.{◌≡◌, ◌<◌, ◌≤◌, ℕ, IsErrOf};
 ghost use Rattle.std.proofs.Props.{props};
 ghost use Rattle.ori_bytes.specs.declared.limits.TheConstants.{MAX_PAGES};
 ghost use Rattle.ori_page.specs.Faults.{page_counted};
+ghost use Rattle.ori_page.specs.declared.fault.PageFault.{PageFault};
+ghost use Rattle.ori_volume.specs.Causes.{Rose};
 ghost use Rattle.ori_cache.specs.Ready.{IsReady};
 
 use crate::read_page;
@@ -26,6 +28,9 @@ pub struct Cached<V: Volume, F: Frames<V> + Drop> {
     volume: PhantomData<V>,
     ghost ready: { IsReady (F.seat frames) } by { Prim.hlevel props },
     ghost few: { count ≤ MAX_PAGES },
+    // No cause is counted more often than the device failed, or a turn was held.
+    ghost device_caused: { causes.device ≤ (F.seat frames).last.faults },
+    ghost busy_caused: { causes.busy ≤ F.waits frames },
 }
 
 impl<V: Volume, F: Frames<V> + Drop> Cached<V, F> {
@@ -35,6 +40,7 @@ impl<V: Volume, F: Frames<V> + Drop> Cached<V, F> {
         requires few { count ≤ MAX_PAGES }
         ensures frames { result.frames ≡ frames }
         ensures count { result.count ≡ count }
+        ensures causes { result.causes ≡ record { device = 0; fault = 0; busy = 0; damaged = 0 } }
     {
         Cached {
             frames,
@@ -52,6 +58,10 @@ impl<V: Volume, F: Frames<V> + Drop> Cached<V, F> {
 
     // Counts a refusal.
     fn note<T>(&mut self, answer: &Result<T, PageFault>)
+        requires device { IsErrOf answer.now PageFault.Device
+            → Rose self.old.causes.device (F.seat self.old.frames).last.faults }
+        requires busy { (turn : ℕ) → IsErrOf answer.now (PageFault.Busy turn)
+            → Rose self.old.causes.busy (F.waits self.old.frames) }
         ensures causes { self.new.causes ≡ page_counted answer.now self.old.causes }
         ensures same { (self.new.frames ≡ self.old.frames) × (self.new.count ≡ self.old.count) }
     {

@@ -1,4 +1,10 @@
 // An operation's pages.
+ghost use Rattle.std.specs.Prelude.{◌≡◌, ◌≢◌, ◌<◌, ℕ, List, slice_set, IfErr, OnOk};
+ghost use Rattle.ori_page.specs.Pages.{owner_of};
+ghost use Rattle.ori_page.specs.Spaces.{KeepsFreeList};
+ghost use Rattle.ori_page.specs.Faults.{page_counted, IsOutside};
+ghost use Rattle.ori_cache.specs.Pools.{StillShows};
+
 use crate::{AtomicOp, Cached};
 use ori_bytes::Causes;
 use ori_overlay::Overlay;
@@ -62,7 +68,25 @@ impl<'a, V: Volume, F: Frames<V> + Drop> PageSpace for AtomicOp<'a, V, F> {
         pool.overlay.read(page)
     }
 
-    fn write(&mut self, page: u32, content: Page) -> Result<(), PageFault> {
+    // The pages stand over the same ones of the cache.
+    fn write(&mut self, page: u32, content: Page) -> Result<(), PageFault>
+        requires page { page < self.old.pool.now.overlay.changes.count }
+        requires owner { owner_of content ≢ 0 }
+        ensures shows { OnOk result (StillShows F.gives self.old.pool.now.overlay.source.frames
+            self.old.pool.now.overlay.source.count self.old.pool.now.overlay.changes
+            self.new.pool.now.overlay.changes (λ pages. slice_set pages page content)) }
+        ensures pages { OnOk result ((pages : List (List ℕ)) → ⟦<AtomicOp<'a, V, F> as PageSpace>⟧.gives self.old pages
+            → ⟦<AtomicOp<'a, V, F> as PageSpace>⟧.gives self.new (slice_set pages page content)) }
+        ensures listed { (pages : List (List ℕ)) → ⟦<AtomicOp<'a, V, F> as PageSpace>⟧.gives self.old pages
+            → KeepsFreeList page content pages (slice_set pages page content) }
+        ensures count { OnOk result (self.new.pool.now.overlay.changes.count
+            ≡ self.old.pool.now.overlay.changes.count) }
+        ensures fault { IfErr result IsOutside }
+        ensures keeps { ⟦<AtomicOp<'a, V, F> as PageSpace>⟧.keeps self.old self.new }
+        ensures causes { ⟦<AtomicOp<'a, V, F> as PageSpace>⟧.causes self.new
+            ≡ page_counted result (⟦<AtomicOp<'a, V, F> as PageSpace>⟧.causes self.old) }
+        ensures reads { self.new.pool.now.overlay.reads ≡ self.old.pool.now.overlay.reads }
+    {
         let pool = &mut *self.pool;
         pool.overlay.write(page, content)
     }

@@ -1,14 +1,12 @@
 -- What a commit answers, by what was tested.
-use Rattle.std.proofs.Common.{◌≡◌, ◌⊎◌, inl, inr, option_map, ℕ, ◌+◌, ◌-◌, ◌<◌, ◌≤◌, List, [], ◌∷◌}
-use Rattle.std.proofs.Common.{◌++◌, length, Option, Some, Result, Ok, Err, IfErr, refl, sym, ap, ◌∙◌, subst, arith}
+use Rattle.std.proofs.Common.{◌≡◌, inl, inr, option_map, ℕ, ◌+◌, List, [], ◌∷◌}
+use Rattle.std.proofs.Common.{◌++◌, length, Option, Some, None, Result, Ok, Err, IfErr, refl, sym, ap, ◌∙◌, subst}
+use Rattle.std.proofs.Common.{arith}
 use Rattle.ori_bytes.specs.declared.rid.Rid.{Rid}
-use Rattle.ori_log.specs.declared.fault.LogFault.{LogFault}
-use Rattle.ori_log.specs.declared.fault.LogFault.TheVariants as faults
-use Rattle.std.proofs.lemmas.Bool.{cases_lt}
 use Rattle.ori_spec_data.specs.Base.{RecordData, TxData}
 use Rattle.ori_spec_data.specs.Base.{EntryData, commit, AskedData, asks_commit}
 use Rattle.ori_spec_data.specs.Apply.{fresh}
-use Rattle.ori_spec_data.specs.Weighing.{entry_bytes, feed_bytes, log_need}
+use Rattle.ori_spec_data.specs.Weighing.{entry_bytes, feed_bytes}
 use Rattle.ori_spec_data.specs.Refusing.{refusal}
 use Rattle.ori_spec_data.proofs.Kept.{fresh_count}
 use Rattle.ori_spec_data.specs.Keeping.{OpeningData, DecisionData, refused, accepted, fault, no_memory, IsAsked}
@@ -29,23 +27,26 @@ use Rattle.ori_engine.specs.declared.kept.Kept.{Kept}
 use Rattle.ori_engine.specs.States.{state_of, IsAskedOf, IsPrepared, Refuses, IsInside}
 use Rattle.ori_engine.proofs.Refusals.{may_refuse}
 
-pub asked : (k : Kept) (what : AskedData) (opening : OpeningData) → IsAskedOf k what → IsAsked (state_of k opening) what
-asked k what opening h = record { running = h.going; entries = h.entries; bytes = h.bytes }
+pub asked : (k : Kept) (what : AskedData) (opening : OpeningData) → IsAskedOf k what
+    → IsAsked (state_of k None opening) what
+asked k what opening h = record { running = refl; entries = h.entries; bytes = h.bytes }
 
 pub stage_refuses : (T : Type 0) (k : Kept) (session : ℕ) (tx : TxData) (result : Result T CommitFault)
     → IsAskedOf k (asks_commit tx) → Answers {T = T} (refusal (base_with (rows_of k.table.0)) tx) result
-    → IfErr result (Refuses k session (asks_commit tx))
+    → IfErr result (Refuses k None session (asks_commit tx))
 stage_refuses T k session tx (Ok x) h answers = tt
 stage_refuses T k session tx (Err why) h (inl none) = record {
   decides = λ opening.
-      subst (λ (d : DecisionData). Decides (state_of k opening) session (asks_commit tx) d (state_of k opening))
+      subst (λ (d : DecisionData). Decides (state_of k None opening) session (asks_commit tx) d
+      (state_of k None opening))
       (sym none) refl;
   no_fault = λ is. let both : no_memory ≡ fault = sym none ∙ is in absurd (cc both);
   inside = subst IsInside (sym none) tt;
 }
 stage_refuses T k session tx (Err why) h (inr (w, e, t)) = record {
   decides = λ opening.
-      subst (λ (d : DecisionData). Decides (state_of k opening) session (asks_commit tx) d (state_of k opening)) (sym t)
+      subst (λ (d : DecisionData). Decides (state_of k None opening) session (asks_commit tx) d
+      (state_of k None opening)) (sym t)
       (asked k (asks_commit tx) opening h, e, may_refuse (base_with (rows_of k.table.0)) tx w e, refl);
   no_fault = λ is. let both : refused w ≡ fault = sym t ∙ is in absurd (cc both);
   inside = subst IsInside (sym t) tt;
@@ -63,7 +64,7 @@ entries_more (y ∷ xs) x = ap (λ (l : List EntryData). entry_of y ∷ l) (entr
 
 -- these are the identifiers of the new records, one for each
 pub are_fresh : (k : Kept) (tx : TxData) (rids : List Rid) (opening : OpeningData)
-    → rids ≡ fresh (base_with (rows_of k.table.0)) tx → AreFresh (state_of k opening) (asks_commit tx) rids
+    → rids ≡ fresh (base_with (rows_of k.table.0)) tx → AreFresh (state_of k None opening) (asks_commit tx) rids
 are_fresh k tx rids opening h = (
   ap length h ∙ fresh_count (base_with (rows_of k.table.0)).schema.classes (base_with
       (rows_of k.table.0)).next tx.changes,
@@ -71,7 +72,7 @@ are_fresh k tx rids opening h = (
 )
 
 pub allowed : (k : Kept) (session : ℕ) (tx : TxData) (p : Prepared) (opening : OpeningData) → IsPrepared k session tx p
-    → IsAllowed (state_of k opening) (asks_commit tx)
+    → IsAllowed (state_of k None opening) (asks_commit tx)
 allowed k session tx p opening h = record {
   asked_is = asked k (asks_commit tx) opening h.asked;
   allowed = (h.staged).allowed;
@@ -85,57 +86,29 @@ allowed k session tx p opening h = record {
 }
 
 pub granted : (k : Kept) (session : ℕ) (tx : TxData) (p : Prepared) (opening : OpeningData) → IsPrepared k session tx p
-    → log_need tx ≤ k.room → IsGranted (state_of k opening) (asks_commit tx)
-granted k session tx p opening h room = record { allowed = allowed k session tx p opening h; room = room }
+    → IsGranted (state_of k None opening) (asks_commit tx)
+granted k session tx p opening h = record { allowed = allowed k session tx p opening h; room = tt }
 
 -- it was accepted
 pub accepts : (old new : Kept) (session : ℕ) (tx : TxData) (p : Prepared) (opening : OpeningData)
-    → IsPrepared old session tx p → log_need tx ≤ old.room
-    → rows_of new.table.0 ≡ rows_with (rows_of old.table.0) p.staged
+    → IsPrepared old session tx p → rows_of new.table.0 ≡ rows_with (rows_of old.table.0) p.staged
     → entries_of new.feed.items ≡ entries_of old.feed.items ++ entry_of p.entry ∷ []
-    → length new.feed.items ≡ length old.feed.items + 1
-    → new.room ≡ old.room - (log_need tx - 1) → new.halted ≡ old.halted → new.doubt ≡ old.doubt
-    → Decides (state_of old opening) session (asks_commit tx) (accepted (length old.feed.items) p.fresh)
-    (state_of new opening)
-accepts old new session tx p opening h room rows feed front room_is halted doubt = (
-  granted old session tx p opening h room,
+    → length new.feed.items ≡ length old.feed.items + 1 → new.doubt ≡ old.doubt
+    → Decides (state_of old None opening) session (asks_commit tx) (accepted (length old.feed.items) p.fresh)
+    (state_of new None opening)
+accepts old new session tx p opening h rows feed front doubt = (
+  granted old session tx p opening h,
   refl,
   are_fresh old tx p.fresh opening h.fresh_is,
   record {
     base = ap (λ (l : List (Option RecordData)). Some (base_with l)) rows ∙ ap Some (h.staged).made;
     feed = ap Some (feed ∙ ap (λ (e : EntryData). entries_of old.feed.items ++ e ∷ []) (h.entry_is ∙ ap (λ
         (rids : List Rid). commit session tx rids) (sym h.fresh_is)));
-    limit = ap Some room_is;
+    limit = refl;
     in_use = omega (arith, ap length rows, (h.staged).in_use);
     front = front;
-    halted = halted;
+    halted = refl;
     doubt = ap (λ (o : Option Doubt). entry_in_doubt (option_map doubt_of o)) doubt;
     opening = refl;
   },
 )
-
--- ---- why an append failed
-
-pub at_least : (room need : ℕ) → (room < need → ⊥) → need ≤ room
-at_least room need not_short = by (cases_lt room need) where
-  by : (room < need) ⊎ (need ≤ room) → need ≤ room
-  by (inl short) = absurd (not_short short)
-  by (inr enough) = enough
-
-pub not_enough : (room need : ℕ) → (need ≤ room → ⊥) → room < need
-not_enough room need none = by (cases_lt room need) where
-  by : (room < need) ⊎ (need ≤ room) → room < need
-  by (inl short) = short
-  by (inr enough) = absurd (none enough)
-
-abbrev Answer : Type 0
-Answer = Result (Unit {0}) LogFault
-
--- an append that failed, and not because the log is full
-pub not_full : (why : LogFault) (need room : ℕ) → (room < need → ◌≡◌ {A = Answer} (Err why) (Err
-    (faults.LogFull need room))) → (need ≤ room → ◌≡◌ {A = Answer} (Err why) (Err faults.Failed))
-    → ((n r : ℕ) → why ≡ faults.LogFull n r → ⊥) → (need ≤ room) × (why ≡ faults.Failed)
-not_full why need room full fits other =
-    let enough : need ≤ room = at_least room need (λ short. let is = full short in other need room (cc is)) in
-    let failed = fits enough in
-    (enough, cc failed)

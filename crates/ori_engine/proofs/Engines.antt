@@ -1,10 +1,10 @@
--- What an engine keeps through a commit, and what its state says.
+-- What an engine's state says, and what its counts are.
 use Rattle.std.proofs.Common.{◌≡◌, inl, inr, ℕ, ◌+◌, ◌<◌, ◌≤◌, true, List, [], ◌∷◌, ◌++◌, length, Option, Some, None}
 use Rattle.std.proofs.Common.{option_map, IsSome, refl, sym, ap, ◌∙◌, subst, arith}
 use Rattle.std.specs.Option.{ForSome}
 use Rattle.ori_bytes.specs.declared.causes.Causes.{Causes}
 use Rattle.ori_volume.specs.Causes.{Rose}
-use Rattle.ori_volume.specs.Disk.{Disk, Files}
+use Rattle.ori_volume.specs.Disk.{Disk}
 use Rattle.ori_volume.specs.Story.{Story, Tells, disks, moment_of}
 use Rattle.ori_volume.proofs.Known.{tells_map, tells_then}
 use Rattle.ori_volume.specs.Runs.{EachImage}
@@ -18,26 +18,22 @@ use Rattle.ori_rows.specs.Stage.{OpensTo}
 use Rattle.ori_table.specs.Kept.{rows_of}
 use Rattle.ori_model.specs.declared.entry.Entry.{Entry}
 use Rattle.ori_model.specs.Data.{entries_of}
-use Rattle.ori_model.specs.Standing.{PastData}
 use Rattle.ori_engine.specs.declared.doubt.Doubt.{Doubt}
 use Rattle.ori_engine.specs.declared.kept.Kept.{Kept}
-use Rattle.ori_engine.specs.Commits.{KeptData}
 use Rattle.ori_engine.specs.KeeperLaws.{entries_length}
 use Rattle.ori_engine.specs.Doubts.{doubt_of, entry_in_doubt, OpensWith}
-use Rattle.ori_engine.specs.Reopening.{IsKeptSince, LeavesAll, OpensWhole, ReadSince, ReopensSince, StaysRead}
-use Rattle.ori_engine.specs.States.{kept_of, state_of, IsNewlyKept, StaysSafe, HaltsBy, IsInside}
-use Rattle.ori_spec_data.specs.Limits.{FoundData}
-use Rattle.ori_engine.specs.Openings.{IsStartedKept, IsStarted, IsFresh, IsKeptState, SafeSince, Survives}
+use Rattle.ori_engine.specs.Safety.{KeptData, SafeSince, StaysSafe}
+use Rattle.ori_engine.specs.Reopening.{LeavesAll, OpensWhole}
+use Rattle.ori_engine.specs.States.{kept_of, state_of, IsNewlyKept, HaltsBy, IsWhole}
+use Rattle.ori_engine.specs.Openings.{IsFresh, IsKeptState, Survives, troubles_of, HasRisenBy}
 
-pub sound_on : (old new : KeptData) (first : PastData) (files now_files : Option Files) (story now_story : Option Story)
-    → Tells (StaysSafe old new) story now_story → Tells (StaysRead old new) files now_files
-    → IsKeptSince old first files story → IsKeptSince new first now_files now_story
-sound_on old new first files now_files story now_story safe read since = record {
-  safe = tells_then (SafeSince old) (StaysSafe old new) (SafeSince new) first.story story now_story
-      (λ x y z was stays. λ base opens. stays base x (was base opens)) since.safe safe;
-  read = tells_then (ReadSince old) (StaysRead old new) (ReadSince new) first.files files now_files
-      (λ x y z was stays. λ base opens. stays (was base opens)) since.read read;
-}
+-- ---- stories
+
+-- what is safe since an earlier moment stays so
+pub safe_on : (old new : KeptData) (first story now : Option Story) → Tells (SafeSince old) first story
+    → Tells (StaysSafe old new) story now → Tells (SafeSince new) first now
+safe_on old new first story now since stays = tells_then (SafeSince old) (StaysSafe old new) (SafeSince new) first story
+    now (λ x y z was goes. λ base opens. goes base x (was base opens)) since stays
 
 -- what is safe survives
 pub survives_so : (kept : KeptData) (first now : Option Story) → Tells (SafeSince kept) first now
@@ -45,18 +41,13 @@ pub survives_so : (kept : KeptData) (first now : Option Story) → Tells (SafeSi
 survives_so kept first now safe = tells_map _ _ _ _ (λ x y was safe. λ base opens. (safe base opens).crash) safe
 
 -- and a crash leaves it whole now
-pub leaves_so : (k : Kept) (opening : OpeningData) (first now : Option Story) → Tells (SafeSince (kept_of k)) first now
-    → Tells (LeavesAll (state_of k opening) (entries_of k.feed.items)) first now
-leaves_so k opening first now safe = tells_map _ _ _ _ (λ x y was safe. λ base opens. record {
+pub leaves_so : (k : Kept) (halted : Option ℕ) (opening : OpeningData) (first now : Option Story)
+    → Tells (SafeSince (kept_of k halted)) first now
+    → Tells (LeavesAll (state_of k halted opening) (entries_of k.feed.items)) first now
+leaves_so k halted opening first now safe = tells_map _ _ _ _ (λ x y was safe. λ base opens. record {
   base_is = ap Some (safe base opens).rows_are;
   images = (safe base opens).whole;
 }) safe
-
--- the files open to it again
-pub reopens_so : (k : Kept) (opening : OpeningData) (first now : Option Files) → Tells (ReadSince (kept_of k)) first now
-    → Tells (ReopensSince (state_of k opening) (option_map doubt_of k.doubt)) first now
-reopens_so k opening first now read =
-    tells_map _ _ _ _ (λ x y was read. λ base opens. (read base opens).reopens) read
 
 -- all of what is kept first
 whole_first : (kept : KeptData) (base : BaseData) (now : Story) → kept.feed ≡ [] → kept.doubt ≡ None
@@ -67,11 +58,11 @@ whole_first kept base now feed doubt whole =
     (subst (λ (o : Option EntryData). EachImage (OpensWith base kept.feed o) now.now.disk) (ap entry_in_doubt doubt)
     whole)
 
-pub whole_so : (k : Kept) (first now : Option Story) → IsNewlyKept k → Tells (SafeSince (kept_of k)) first now
-    → Tells OpensWhole first now
-whole_so k first now newly safe = tells_map _ _ _ _ (λ x y was safe. λ base opens. (
+pub whole_so : (k : Kept) (halted : Option ℕ) (first now : Option Story) → IsNewlyKept k
+    → Tells (SafeSince (kept_of k halted)) first now → Tells OpensWhole first now
+whole_so k halted first now newly safe = tells_map _ _ _ _ (λ x y was safe. λ base opens. (
   later_so x y (safe base opens).crash.added (safe base opens).crash.goes_on,
-  whole_first (kept_of k) base y (ap entries_of newly.feed) (ap (option_map doubt_of) newly.doubt)
+  whole_first (kept_of k halted) base y (ap entries_of newly.feed) (ap (option_map doubt_of) newly.doubt)
       (safe base opens).whole,
 )) safe
   where
@@ -80,15 +71,11 @@ whole_so k first now newly safe = tells_map _ _ _ _ (λ x y was safe. λ base op
 
 -- ---- the state
 
-pub started_so : (k : Kept) (opening : OpeningData) (found : FoundData) → IsStartedKept found k
-    → IsStarted found (state_of k opening)
-started_so k opening found h = record { sound = h.sound; base_is = ap Some h.rows_are; limit_is = h.limit_is }
-
-pub fresh_so : (k : Kept) (opening : OpeningData) → IsNewlyKept k → IsFresh (state_of k opening)
+pub fresh_so : (k : Kept) (opening : OpeningData) → IsNewlyKept k → IsFresh (state_of k None opening)
 fresh_so k opening h = record {
   feed = ap (λ (es : List Entry). Some (entries_of es)) h.feed;
   front = ap length h.feed;
-  halted = h.halted;
+  halted = refl;
   doubt = ap (λ (o : Option Doubt). entry_in_doubt (option_map doubt_of o)) h.doubt;
 }
 
@@ -102,9 +89,10 @@ is_there : (o : Option Doubt) → IsSome (entry_in_doubt (option_map doubt_of o)
 is_there None h = absurd (cc h)
 is_there (Some doubt) h = refl
 
-pub kept_state : (k : Kept) (opening : OpeningData) (causes : Causes) → AreAt 0 (rows_of k.table.0)
-    → (causes.device ≡ 0) × (causes.busy ≡ 0) × (causes.damaged ≡ 0) → IsKeptState (state_of k opening) causes
-kept_state k opening causes at inside = record {
+pub kept_state : (k : Kept) (halted : Option ℕ) (opening : OpeningData) (causes : Causes)
+    → AreAt 0 (rows_of k.table.0) → (IsSome k.doubt → IsSome halted) → causes.damaged ≡ 0
+    → IsKeptState (state_of k halted opening) causes
+kept_state k halted opening causes at doubts inside = record {
   base = base_with (rows_of k.table.0);
   base_is = refl;
   real = real_at 0 (rows_of k.table.0) at;
@@ -112,65 +100,56 @@ kept_state k opening causes at inside = record {
   feed = entries_of k.feed.items;
   feed_is = refl;
   front_is = sym (entries_length k.feed.items);
-  limit = k.room;
   limit_is = refl;
-  doubted = λ some. k.doubts (is_there k.doubt some);
+  doubted = λ some. doubts (is_there k.doubt some);
   inside = inside;
 }
 
 -- ---- causes
 
-abbrev pub Inside : Causes → Type 0
-Inside causes = (causes.device ≡ 0) × (causes.busy ≡ 0) × (causes.damaged ≡ 0)
+pub whole_on : (d : DecisionData) (causes : Causes) → IsWhole d → causes.damaged ≡ 0 → (counted d causes).damaged ≡ 0
+whole_on (accepted place rids) causes is h = h
+whole_on (halted_at at) causes is h = h
+whole_on (feed_full entries bytes) causes is h = h
+whole_on (refused why) causes is h = h
+whole_on (pages_full n heavy) causes is h = h
+whole_on (log_full need room) causes is h = h
+whole_on fault causes is h = h
+whole_on device causes is h = h
+whole_on (busy turn) causes is h = h
+whole_on (damaged page) causes is h = absurd is
+whole_on no_memory causes is h = h
 
-pub inside_on : (d : DecisionData) (causes : Causes) → IsInside d → Inside causes → Inside (counted d causes)
-inside_on (accepted place rids) causes is h = h
-inside_on (halted_at at) causes is h = h
-inside_on (feed_full entries bytes) causes is h = h
-inside_on (refused why) causes is h = h
-inside_on (pages_full n heavy) causes is h = h
-inside_on (log_full need room) causes is h = h
-inside_on fault causes is h = h
-inside_on device causes is h = absurd is
-inside_on (busy turn) causes is h = absurd is
-inside_on (damaged page) causes is h = absurd is
-inside_on no_memory causes is h = h
+-- so often Device or Fault was answered as calls failed
+pub troubled_on : (d : DecisionData) (causes : Causes) (opened old new : ℕ) → old ≤ new
+    → (d ≡ fault → Rose old new) → (d ≡ device → Rose old new) → HasRisenBy (troubles_of causes) opened old
+    → HasRisenBy (troubles_of (counted d causes)) opened new
+troubled_on fault causes opened old new later rose read h = let r = rose refl in omega (arith, r, h, later)
+troubled_on device causes opened old new later rose read h = let r = read refl in omega (arith, r, h, later)
+troubled_on (accepted place rids) causes opened old new later rose read h = omega (arith, h, later)
+troubled_on (halted_at at) causes opened old new later rose read h = omega (arith, h, later)
+troubled_on (feed_full entries bytes) causes opened old new later rose read h = omega (arith, h, later)
+troubled_on (refused why) causes opened old new later rose read h = omega (arith, h, later)
+troubled_on (pages_full n heavy) causes opened old new later rose read h = omega (arith, h, later)
+troubled_on (log_full need room) causes opened old new later rose read h = omega (arith, h, later)
+troubled_on (busy turn) causes opened old new later rose read h = omega (arith, h, later)
+troubled_on (damaged page) causes opened old new later rose read h = omega (arith, h, later)
+troubled_on no_memory causes opened old new later rose read h = omega (arith, h, later)
 
--- Fault is counted only where a call failed
-pub faulted_on : (d : DecisionData) (causes : Causes) (opened old new : ℕ) → opened ≤ old → old ≤ new
-    → (d ≡ fault → Rose old new) → (0 < causes.fault → Rose opened old) → 0 < (counted d causes).fault → Rose opened new
-faulted_on fault causes opened old new before later rose h some = let r = rose refl in omega (arith, r, before)
-faulted_on (accepted place rids) causes opened old new before later rose h some = let r = h some in omega
-    (arith, r, later)
-faulted_on (halted_at at) causes opened old new before later rose h some = let r = h some in omega (arith, r, later)
-faulted_on (feed_full entries bytes) causes opened old new before later rose h some = let r = h some in omega
-    (arith, r, later)
-faulted_on (refused why) causes opened old new before later rose h some = let r = h some in omega (arith, r, later)
-faulted_on (pages_full n heavy) causes opened old new before later rose h some = let r = h some in omega
-    (arith, r, later)
-faulted_on (log_full need room) causes opened old new before later rose h some = let r = h some in omega
-    (arith, r, later)
-faulted_on device causes opened old new before later rose h some = let r = h some in omega (arith, r, later)
-faulted_on (busy turn) causes opened old new before later rose h some = let r = h some in omega (arith, r, later)
-faulted_on (damaged page) causes opened old new before later rose h some = let r = h some in omega (arith, r, later)
-faulted_on no_memory causes opened old new before later rose h some = let r = h some in omega (arith, r, later)
-
--- nor while commits go on
-pub faultless_on : (d : DecisionData) (causes : Causes) (old new : Option ℕ) → (d ≡ fault → IsSome new)
-    → (new ≡ None → old ≡ None) → (old ≡ None → causes.fault ≡ 0) → new ≡ None → (counted d causes).fault ≡ 0
-faultless_on fault causes old new ends before h none =
-    let some : IsSome {T = ℕ} None = subst (λ (o : Option ℕ). IsSome o) none (ends refl) in
-    absurd (cc some)
-faultless_on (accepted place rids) causes old new ends before h none = h (before none)
-faultless_on (halted_at at) causes old new ends before h none = h (before none)
-faultless_on (feed_full entries bytes) causes old new ends before h none = h (before none)
-faultless_on (refused why) causes old new ends before h none = h (before none)
-faultless_on (pages_full n heavy) causes old new ends before h none = h (before none)
-faultless_on (log_full need room) causes old new ends before h none = h (before none)
-faultless_on device causes old new ends before h none = h (before none)
-faultless_on (busy turn) causes old new ends before h none = h (before none)
-faultless_on (damaged page) causes old new ends before h none = h (before none)
-faultless_on no_memory causes old new ends before h none = h (before none)
+-- Busy was answered only where a take has found its turn held
+pub waited_on : (d : DecisionData) (causes : Causes) (old new : ℕ) → old ≤ new
+    → ((turn : ℕ) → d ≡ busy turn → Rose old new) → (0 < causes.busy → 0 < old) → 0 < (counted d causes).busy → 0 < new
+waited_on (busy turn) causes old new later rose h some = let r = rose turn refl in omega (arith, r)
+waited_on (accepted place rids) causes old new later rose h some = let w = h some in omega (arith, w, later)
+waited_on (halted_at at) causes old new later rose h some = let w = h some in omega (arith, w, later)
+waited_on (feed_full entries bytes) causes old new later rose h some = let w = h some in omega (arith, w, later)
+waited_on (refused why) causes old new later rose h some = let w = h some in omega (arith, w, later)
+waited_on (pages_full n heavy) causes old new later rose h some = let w = h some in omega (arith, w, later)
+waited_on (log_full need room) causes old new later rose h some = let w = h some in omega (arith, w, later)
+waited_on fault causes old new later rose h some = let w = h some in omega (arith, w, later)
+waited_on device causes old new later rose h some = let w = h some in omega (arith, w, later)
+waited_on (damaged page) causes old new later rose h some = let w = h some in omega (arith, w, later)
+waited_on no_memory causes old new later rose h some = let w = h some in omega (arith, w, later)
 
 -- ---- the end of commits
 

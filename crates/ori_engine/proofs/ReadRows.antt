@@ -1,13 +1,13 @@
 -- What pages are read as: the rows that they have, and the bases that they stand for.
-use Rattle.std.proofs.Common.{◌≡◌, ℕ, zero, suc, ◌+◌, ◌-◌, ◌<◌, ◌≤◌, List, [], ◌∷◌, ◌++◌, length, take, drop, get_or}
+use Rattle.std.proofs.Common.{◌≡◌, ℕ, zero, suc, ◌+◌, ◌<◌, ◌≤◌, List, [], ◌∷◌, ◌++◌, length, take, drop, get_or}
 use Rattle.std.proofs.Common.{Option, Some, None, refl, sym, ap, subst, ◌∙◌, arith, inl, inr, length-append}
-use Rattle.std.proofs.Common.{length-drop, Bool, true, false, true≢false, not, nat_eq, IfOk, Result, Ok, Err}
-use Rattle.std.specs.List.{AllByRecursion}
+use Rattle.std.proofs.Common.{Bool, true, false, true≢false, not, nat_eq, IfOk, Result, Ok, Err}
 use Rattle.std.specs.Int.{w16, w32, from_be_bytes}
-use Rattle.std.proofs.lemmas.List.{get_or-take, get_or-drop, get_or_append_left, length-take-le}
+use Rattle.std.proofs.lemmas.List.{get_or_append_left}
 use Rattle.std.proofs.lemmas.Bool.{cases_lt}
 use Rattle.std.specs.Cmp.Lexicographic.{pointwise, same_text, other_text}
 use Rattle.ori_bytes.specs.declared.limits.TheConstants.{PAGE_BYTES, MAX_PAGES}
+use Rattle.ori_page.specs.Spaces.{page_at}
 use Rattle.ori_spec_data.specs.Base.{RecordData, BaseData}
 use Rattle.ori_spec_data.specs.Apply.{rid_at}
 use Rattle.ori_spec_data.specs.Records.{record_at}
@@ -18,9 +18,9 @@ use Rattle.ori_rows.specs.Stage.{head_page, record_page, IsPageOf, StandFor}
 use Rattle.ori_rows.specs.Rows.{AreAt}
 use Rattle.ori_rows.proofs.Places.{at_append}
 use Rattle.ori_table.specs.Kept.{AreOwn, AreKept}
-use Rattle.ori_engine.specs.Reading.{AreRowsOf, IsOpened, IsNoTable, IsCountOf, HasNoCount, IsRecordPage, IsRowAt}
-use Rattle.ori_engine.specs.Reading.{AreReadFrom}
-use Rattle.ori_engine.proofs.RecordForms.{record_fits, record_length, record_bytes_at, pages_counted}
+use Rattle.ori_paged.specs.PageRows.{HavePages}
+use Rattle.ori_paged.proofs.RecordForms.{record_fits, record_length, record_bytes_at, pages_counted}
+use Rattle.ori_engine.specs.Reading.{IsNoTable, IsCountOf, HasNoCount, IsRecordPage, IsRowAt, IsRead, AreReadFrom}
 
 -- ---- tests of bytes
 
@@ -43,6 +43,11 @@ pub ok_both : {T E : Type 0} (P Q R : T → Type 0) (result : Result T E) → ((
     → IfOk result Q → IfOk result R
 ok_both P Q R (Ok x) step p q = step x p q
 ok_both P Q R (Err e) step p q = tt
+
+pub ok_map : {T E : Type 0} (P R : T → Type 0) (result : Result T E) → ((x : T) → P x → R x) → IfOk result P
+    → IfOk result R
+ok_map P R (Ok x) step p = step x p
+ok_map P R (Err e) step p = tt
 
 -- ---- a record's page
 
@@ -105,7 +110,7 @@ pub none_unpaged : (page : List ℕ) → ((bytes : List ℕ) → page ≡ record
 none_unpaged page none (inl empty) = none [] empty
 none_unpaged page none (inr w) = none w.0 w.3
 
--- ---- the rows of pages
+-- ---- rows that are kept
 
 own_append : (xs ys : List (Option RecordData)) → AreOwn xs → AreOwn ys → AreOwn (xs ++ ys)
 own_append [] ys own more = more
@@ -120,79 +125,39 @@ kept_more rows page row kept is few = record {
   few = omega (arith, few, length-append rows (row ∷ []));
 }
 
+-- ---- the rows of pages
+
 -- no row is of no page
 pub read_none : (pages : List (List ℕ)) → AreReadFrom pages []
-read_none pages = record {
-  each = λ q lt. absurd (omega
-      (arith, lt));
-  kept = record { at = tt; own = tt; few = omega arith };
-}
+read_none pages = λ q lt. absurd (omega (arith, lt))
 
 -- the next page's row joins them
-pub read_more : (pages : List (List ℕ)) (rows : List (Option RecordData)) (page : List ℕ) (row : Option RecordData)
-    → AreReadFrom pages rows → get_or pages (length rows) [] ≡ page → IsRowAt (length rows) page row
-    → length rows + 1 < MAX_PAGES
-    → AreReadFrom pages (rows ++ row ∷ [])
-read_more pages rows page row read here is few = record {
-  each = λ q lt.
-      elim (cases_lt q (length rows)) [
-        | inl below ↦ subst (λ (o : Option RecordData). IsPageOf (get_or pages q []) o) (sym (get_or_append_left rows
-            (row ∷ []) None q below)) (read.each q below)
-        | inr above ↦
-            let last : length rows ≡ q = omega (arith, lt, above, length-append rows (row ∷ [])) in
-            subst (λ (k : ℕ). IsPageOf (get_or pages k []) (get_or (rows ++ row ∷ []) k None)) last
-            (subst (λ (o : Option RecordData). IsPageOf (get_or pages (length rows) []) o) (sym (at_end rows row))
-            (subst (λ (p : List ℕ). IsPageOf p row) (sym here) is.has))
-      ];
-  kept = kept_more rows page row read.kept is few;
-} where
-  at_end : (rows : List (Option RecordData)) (row : Option RecordData)
-      → get_or (rows ++ row ∷ []) (length rows) None ≡ row
-  at_end [] row = refl
-  at_end (o ∷ rows) row = at_end rows row
+pub read_more : (pages : List (List ℕ)) (old new : List (Option RecordData)) → AreReadFrom pages old
+    → IsRead pages old new → AreReadFrom pages new
+read_more pages old new read (row, is, here) =
+    subst (λ (rows : List (Option RecordData)). AreReadFrom pages rows) (sym is) (λ q lt.
+    elim (cases_lt q (length old)) [
+      | inl below ↦ subst (λ (o : Option RecordData). IsPageOf (page_at pages (q + 1)) o) (sym (get_or_append_left old
+          (row ∷ []) None q below)) (read q below)
+      | inr above ↦
+          let last : length old ≡ q = omega (arith, lt, above, length-append old (row ∷ [])) in
+          subst (λ (k : ℕ). IsPageOf (page_at pages (k + 1)) (get_or (old ++ row ∷ []) k None)) last
+          (subst (λ (o : Option RecordData). IsPageOf (page_at pages (length old + 1)) o) (sym (at_end old row)) here)
+    ])
+  where
+    at_end : (rows : List (Option RecordData)) (row : Option RecordData)
+        → get_or (rows ++ row ∷ []) (length rows) None ≡ row
+    at_end [] row = refl
+    at_end (o ∷ rows) row = at_end rows row
 
--- ---- lists of pages
-
-pub all_of_each : (P : List ℕ → Type 0) (pages : List (List ℕ)) → ((k : ℕ) → k < length pages → P (get_or pages k []))
-    → AllByRecursion P pages
-all_of_each P [] each = tt
-all_of_each P (page ∷ pages) each = (each 0 (omega arith), all_of_each P pages (λ k lt. each (suc k) (omega arith)))
-
--- the pages behind page 0 that it counts
-abbrev pub behind : List (List ℕ) → ℕ → List (List ℕ)
-behind pages count = take (count - 1) (drop 1 pages)
-
-pub behind_head : (pages : List (List ℕ)) (count p : ℕ) → p + 1 < count
-    → get_or (behind pages count) p [] ≡ get_or pages (p + 1) []
-behind_head pages count p lt =
-    let swap : 1 + p ≡ p + 1 = omega arith in
-    get_or-take (count - 1) (drop 1 pages) p [] (omega (arith, lt)) ∙ get_or-drop 1 pages p []
-    ∙ ap (λ (k : ℕ). get_or pages k []) swap
-
-pub length_behind : (pages : List (List ℕ)) (count : ℕ) → 0 < count → count ≤ length pages
-    → length (behind pages count) + 1 ≡ count
-length_behind pages count some within =
-    let fits : count - 1 ≤ length (drop 1 pages) = omega (arith, some, within, length-drop 1 pages) in
-    omega (arith, some, length-take-le (count - 1) (drop 1 pages) fits)
-
--- the rows of those are the rows of all
-pub rows_of_all : (pages : List (List ℕ)) (count : ℕ) (rows : List (Option RecordData)) → IsCountOf pages count
-    → length rows ≡ length (behind pages count) → AreReadFrom (behind pages count) rows → AreRowsOf pages rows
-rows_of_all pages count rows counted all read =
-    let long : length rows + 1 ≡ count = ap (λ (n : ℕ). n + 1) all
-    ∙ length_behind pages count counted.some counted.within in
-    record {
-      within = omega (arith, long, counted.within);
-      head = counted.head ∙ ap head_page (sym long);
-      each = λ q lt. subst (λ (p : List ℕ). IsPageOf p (get_or rows q None)) (behind_head pages count q (omega
-          (arith, lt, long))) (read.each q lt);
-      at = read.kept.at;
-    }
-
-pub opened_some : (pages : List (List ℕ)) (rows : List (Option RecordData)) → 0 < length pages → AreRowsOf pages rows
-    → IsOpened pages rows
-opened_some [] rows some are = absurd (omega (arith, some))
-opened_some (page ∷ pages) rows some are = are
+-- the rows of the pages that page 0 counts
+pub have_pages : (pages : List (List ℕ)) (rows : List (Option RecordData)) (count : ℕ) → count ≤ length pages
+    → page_at pages 0 ≡ head_page count → length rows + 1 ≡ count → AreReadFrom pages rows → HavePages rows pages
+have_pages pages rows count within head all read = record {
+  enough = omega (arith, within, all);
+  head = head ∙ ap head_page (sym all);
+  each = read;
+}
 
 -- ---- the pages of a base
 
@@ -230,38 +195,24 @@ stands_within pages base stands =
           (rid_at 1 m)) (stands.each m lt)) (past_end pages (m + 1) past)
 
 -- page 0 counts them
-one_count : (pages : List (List ℕ)) (base : BaseData) (count : ℕ) → IsCountOf pages count → StandFor pages base
-    → get_or base.next 0 0 + 1 ≡ count
+one_count : (pages : List (List ℕ)) (base : BaseData) (count : ℕ) → IsCountOf (page_at pages 0) (length pages) count
+    → StandFor pages base → get_or base.next 0 0 + 1 ≡ count
 one_count pages base count counted stands =
     let n = get_or base.next 0 0 + 1 in
     let there = stands_within pages base stands in
     sym (pages_counted n (omega (arith, counted.few, there)))
-    ∙ ap (λ (p : List ℕ). from_be_bytes w32 (drop 12 p)) (sym stands.head ∙ counted.head)
+    ∙ ap (λ (p : List ℕ). from_be_bytes w32 (drop 12 p)) (sym stands.head ∙ counted.form)
     ∙ pages_counted count (omega (arith, counted.few, counted.within))
 
--- and each behind page 0 has a record or none
-stands_records : (pages : List (List ℕ)) (base : BaseData) (count : ℕ) → IsCountOf pages count → StandFor pages base
-    → AllByRecursion IsRecordPage (behind pages count)
-stands_records pages base count counted stands =
+-- pages of which page 0 counts none stand for no base
+pub uncounted : (pages : List (List ℕ)) → HasNoCount (page_at pages 0) (length pages) → IsNoTable pages
+uncounted pages none = λ few base stands.
+    none few (get_or base.next 0 0 + 1) (omega arith) (stands_within pages base stands) stands.head
+
+-- nor do those with a page among the counted ones that is of no record and not empty
+pub unrecorded : (pages : List (List ℕ)) (count place : ℕ) → IsCountOf (page_at pages 0) (length pages) count
+    → place + 1 < count → (IsRecordPage (page_at pages (place + 1)) → ⊥) → IsNoTable pages
+unrecorded pages count place counted within none = λ few base stands.
     let next = one_count pages base count counted stands in
-    all_of_each IsRecordPage (behind pages count) (λ k lt.
-    let long = length_behind pages count counted.some counted.within in
-    let there : k + 1 < count = omega (arith, lt, long) in
-    let is = page_of_some (get_or pages (k + 1) []) (record_at base.stored (rid_at 1 k)) (stands.each k (omega
-    (arith, there, next))) in
-    subst IsRecordPage (sym (behind_head pages count k there)) is)
-
-pub uncounted : (pages : List (List ℕ)) → 0 < length pages → HasNoCount pages → IsNoTable pages
-uncounted pages some none = (
-  some,
-  λ few base stands. none few (get_or base.next 0 0 + 1) (omega arith)
-      (stands_within pages base stands) stands.head,
-)
-
-pub unrecorded : (pages : List (List ℕ)) (count : ℕ) → IsCountOf pages count
-    → (AllByRecursion IsRecordPage (behind pages count) → ⊥) → IsNoTable pages
-unrecorded pages count counted none = (
-  omega (arith, counted.some, counted.within),
-  λ few base stands. none
-      (stands_records pages base count counted stands),
-)
+    none (page_of_some (page_at pages (place + 1)) (record_at base.stored (rid_at 1 place))
+    (stands.each place (omega (arith, within, next))))

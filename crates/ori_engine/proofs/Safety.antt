@@ -1,6 +1,7 @@
 -- What a crash leaves while a run goes on.
 use Rattle.std.proofs.Common.{◌≡◌, ◌⊎◌, ⊎_elim, ℕ, ◌+◌, ◌-◌, ◌<◌, ◌≤◌, true, false, leb, if◌then◌else◌, List, [], ◌∷◌}
-use Rattle.std.proofs.Common.{◌++◌, length, take, drop, All, Any, refl, sym, ap, ap₂, ◌∙◌, subst, inl, inr, arith}
+use Rattle.std.proofs.Common.{Option, Some, None, ◌++◌, length, take, drop, All, Any, refl, sym, ap, ap₂, ◌∙◌, subst}
+use Rattle.std.proofs.Common.{inl, inr, arith}
 use Rattle.std.proofs.Common.{length-append, take_all, append_assoc}
 use Rattle.std.specs.Prelude.{nat_le}
 use Rattle.std.specs.List.{AllByRecursion}
@@ -15,7 +16,8 @@ use Rattle.ori_volume.specs.Runs.{Run, EachImage}
 use Rattle.ori_spec_data.specs.Base.{BaseData, EntryData}
 use Rattle.ori_spec_data.specs.Apply.{apply, replay}
 use Rattle.ori_rows.specs.Stage.{OpensTo}
-use Rattle.ori_spec_crash.specs.Crash.{marks_by, AreMarks, LeftAt, Leaves, IsLeft, CrashSafe}
+use Rattle.ori_spec_crash.specs.Crash.{marks_by, AreMarks, LeftAt, Leaves, IsLeft, CrashSafe, doubts}
+use Rattle.ori_engine.specs.Doubts.{OpensWith}
 
 -- ---- moments
 
@@ -312,3 +314,37 @@ crash_still base story = record {
   marks_rise = tt;
   none_later = tt;
 }
+
+-- ---- the base alone, or with the entry that is in doubt
+
+-- all of a history, or of that with the doubtful entry
+leaves_with : (image : Files) (base : BaseData) (history : List EntryData) (doubt : Option EntryData) (k : ℕ)
+    → k ≤ length history → OpensWith base history doubt image
+    → Leaves (OpensTo image) base history (doubts history doubt) k
+leaves_with image base history None k within opens = leaves_all image base history [] k within opens
+leaves_with image base history (Some entry) k within (inl opens) =
+    leaves_all image base history ((length history, entry) ∷ []) k within opens
+leaves_with image base history (Some entry) k within (inr opens) =
+    leaves_doubt image base history entry k within opens
+
+-- Moments at which each image opens to all of the history, or to that with the entry in doubt, leave it safe.
+pub crash_kept : (base : BaseData) (history : List EntryData) (doubt : Option EntryData) (marks : List ℕ)
+    (first old new : Story) → CrashSafe OpensTo base history (doubts history doubt) marks first old
+    → Run (EachImage (OpensWith base history doubt)) old new
+    → CrashSafe OpensTo base history (doubts history doubt) marks first new
+crash_kept base history doubt marks first old new safe run =
+    let earlier : moment_of new ≡ length run.added + moment_of old = moments_added old new run.added run.goes_on in
+    record {
+      added = run.added ++ safe.added;
+      goes_on = run.goes_on ∙ ap (λ (l : List Disk). run.added ++ l) safe.goes_on
+          ∙ sym (append_assoc run.added safe.added (disks first));
+      images = λ t image from within left.
+          let most : marks_by marks t ≤ length history = omega (arith, marks_by-most marks t, safe.one_each) in
+          either_moment old new run.added t image (OpensWith base history doubt) (IsLeft OpensTo base history
+          (doubts history doubt) marks first t image) run.goes_on run.each within left
+          (λ early there. safe.images t image from early there)
+          (λ opens. inl (leaves_with image base history doubt _ most opens));
+      one_each = safe.one_each;
+      marks_rise = safe.marks_rise;
+      none_later = none_later-more marks (moment_of old) (moment_of new) (omega arith) safe.none_later;
+    }

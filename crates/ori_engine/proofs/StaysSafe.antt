@@ -10,9 +10,9 @@ use Rattle.ori_spec_data.specs.Soundness.{IsSoundBase}
 use Rattle.ori_rows.specs.Stage.{OpensTo}
 use Rattle.ori_rows.specs.Rows.{base_with}
 use Rattle.ori_spec_crash.specs.Crash.{CrashSafe, doubts}
-use Rattle.ori_engine.specs.Commits.{CommitsSafely, KeptData, IsSafe}
+use Rattle.ori_engine.specs.Safety.{CommitsSafely, KeptData, IsSafe}
 use Rattle.ori_engine.specs.Doubts.{entry_in_doubt, OpensWith}
-use Rattle.ori_engine.proofs.Safety.{replay-more, crash_grown, crash_doubted}
+use Rattle.ori_engine.proofs.Safety.{replay-more, crash_grown, crash_doubted, crash_kept}
 
 -- the entry was acknowledged
 pub safe_grown : {T E : Type 0} (base : BaseData) (first old now : Story) (kept new : KeptData) (entry : EntryData)
@@ -20,7 +20,7 @@ pub safe_grown : {T E : Type 0} (base : BaseData) (first old now : Story) (kept 
     → IsSoundBase (apply (replay base kept.feed) entry) → base_with new.rows ≡ apply (replay base kept.feed) entry
     → new.feed ≡ kept.feed ++ entry ∷ [] → new.marks ≡ kept.marks ++ moment_of now ∷ []
     → new.doubt ≡ kept.doubt → CommitsSafely {T = T} {E = E} (replay base kept.feed) (apply
-    (replay base kept.feed) entry) new.log new.rows (Ok x) old now → IsSafe base first new now
+    (replay base kept.feed) entry) (Ok x) old now → IsSafe base first new now
 safe_grown base first old now kept new entry x safe going sound rows feed marks doubt commits =
     let none : new.doubt ≡ None = doubt ∙ safe.no_doubt going in
     let none_old : entry_in_doubt kept.doubt ≡ None = ap entry_in_doubt (safe.no_doubt going) in
@@ -49,7 +49,6 @@ safe_grown base first old now kept new entry x safe going sound rows feed marks 
       sound = subst IsSoundBase (sym whole) sound;
       rows_are = rows ∙ sym whole;
       no_doubt = λ _. none;
-      held = λ _. commits.held;
     }
 
 -- its write failed
@@ -57,8 +56,8 @@ pub safe_doubted : {T E : Type 0} (base : BaseData) (first old now : Story) (kep
     (why : E) (at : ℕ) → IsSafe base first kept old → kept.halted ≡ None
     → new.rows ≡ kept.rows → new.feed ≡ kept.feed → new.marks ≡ kept.marks → new.halted ≡ Some at
     → entry_in_doubt new.doubt ≡ Some entry
-    → CommitsSafely {T = T} {E = E} (replay base kept.feed) (apply (replay base kept.feed) entry) new.log new.rows
-    (Err why) old now → IsSafe base first new now
+    → CommitsSafely {T = T} {E = E} (replay base kept.feed) (apply (replay base kept.feed) entry) (Err why)
+    old now → IsSafe base first new now
 safe_doubted base first old now kept new entry why at safe going rows feed marks halted doubt commits =
     let none_old : entry_in_doubt kept.doubt ≡ None = ap entry_in_doubt (safe.no_doubt going) in
     let whole_old : EachImage (OpensWith base kept.feed None) old.now.disk = subst (λ
@@ -87,5 +86,37 @@ safe_doubted base first old now kept new entry why at safe going rows feed marks
       sound = subst (λ (l : List EntryData). IsSoundBase (replay base l)) (sym feed) safe.sound;
       rows_are = ap base_with rows ∙ safe.rows_are ∙ ap (replay base) (sym feed);
       no_doubt = λ none. let both : Some at ≡ None = sym halted ∙ none in absurd cc;
-      held = λ none. let both : Some at ≡ None = sym halted ∙ none in absurd cc;
     }
+
+-- the rows, the feed and what is in doubt are the same, and commits may have ended
+pub record SameFeed (old new : KeptData) : Type 0 where
+  pub rows : new.rows ≡ old.rows
+  pub feed : new.feed ≡ old.feed
+  pub marks : new.marks ≡ old.marks
+  pub doubt : new.doubt ≡ old.doubt
+  pub halted : new.halted ≡ None → old.halted ≡ None
+
+abbrev with_halted : Option ℕ → KeptData → KeptData
+with_halted halted kept = record kept { halted = halted }
+
+same_feed : (old new : KeptData) → SameFeed old new → with_halted new.halted old ≡ new
+same_feed old new same = λ i. record {
+  rows = sym same.rows i;
+  feed = sym same.feed i;
+  marks = sym same.marks i;
+  halted = new.halted;
+  doubt = sym same.doubt i;
+}
+
+-- nothing was committed
+pub safe_kept : (base : BaseData) (first old now : Story) (kept new : KeptData) → IsSafe base first kept old
+    → SameFeed kept new → Run (EachImage (OpensWith base kept.feed (entry_in_doubt kept.doubt))) old now
+    → IsSafe base first new now
+safe_kept base first old now kept new safe same run =
+    subst (λ (k : KeptData). IsSafe base first k now) (same_feed kept new same) (record {
+      crash = crash_kept base kept.feed (entry_in_doubt kept.doubt) kept.marks first old now safe.crash run;
+      whole = run_last (EachImage (OpensWith base kept.feed (entry_in_doubt kept.doubt))) old now safe.whole run;
+      sound = safe.sound;
+      rows_are = safe.rows_are;
+      no_doubt = λ none. safe.no_doubt (same.halted none);
+    })

@@ -1,9 +1,12 @@
-pub mod Holding
 pub mod Doubts
-pub mod Commits
+pub mod Safety
+pub mod CacheRows
 pub mod States
 pub mod Openings
 pub mod Reopening
 pub mod KeeperLaws
-pub mod Homes
+pub mod Tending
+pub mod Works
+pub mod Writing
+pub mod Starting
 pub mod Reading

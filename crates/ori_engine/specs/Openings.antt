@@ -1,12 +1,10 @@
 -- What an opening found, and what is safe since.
-use Rattle.std.specs.Prelude.{◌≡◌, ℕ, ◌+◌, ◌<◌, ◌≤◌, true, List, [], length, get_or, Option, Some, None, IsSome, Result}
-use Rattle.std.specs.Prelude.{Ok, Err}
+use Rattle.std.specs.Prelude.{◌≡◌, ℕ, ◌+◌, ◌-◌, ◌^◌, ◌≤◌, min, true, List, [], length, get_or, Option, Some, None}
+use Rattle.std.specs.Prelude.{IsSome}
 use Rattle.ori_bytes.specs.declared.causes.Causes.{Causes}
 use Rattle.ori_volume.specs.Causes.{Rose}
-use Rattle.ori_volume.specs.Disk.{Files, files_of}
+use Rattle.ori_volume.specs.Disk.{files_of}
 use Rattle.ori_volume.specs.Story.{Story}
-use Rattle.ori_log.specs.Log.{ImageData, IsTail, room_behind}
-use Rattle.ori_log.specs.Files.{files_data}
 use Rattle.ori_model.specs.Standing.{PastData}
 use Rattle.ori_spec_data.specs.Base.{BaseData, EntryData}
 use Rattle.ori_spec_data.specs.Soundness.{IsSoundBase}
@@ -15,13 +13,9 @@ use Rattle.ori_spec_data.specs.Keeping.{OpeningData, StateData}
 use Rattle.ori_spec_data.specs.Limits.{FoundData}
 use Rattle.ori_spec_crash.specs.Crash.{CrashSafe, doubts}
 use Rattle.ori_rows.specs.Stage.{OpensTo}
-use Rattle.ori_rows.specs.Rows.{base_with}
-use Rattle.ori_table.specs.Kept.{rows_of}
-use Rattle.ori_engine.specs.declared.fault.StartFault.{StartFault}
-use Rattle.ori_engine.specs.declared.kept.Kept.{Kept}
+use Rattle.ori_turns.specs.Caches.{Cache, HoldNow, unread}
 use Rattle.ori_engine.specs.declared.opened.Opened.{Opened}
-use Rattle.ori_engine.specs.Commits.{KeptData, IsSafe}
-use Rattle.ori_engine.specs.States.{kept_of}
+use Rattle.ori_engine.specs.CacheRows.{OpenedTo}
 
 -- Its numbers are told. The base that it found isn't: it is the state's own, until the first commit.
 abbrev pub opening_of : Opened → OpeningData
@@ -45,44 +39,24 @@ Survives feed doubt marks first now = (base : BaseData) → OpensTo (files_of fi
 abbrev pub LeavesBase : Story → Story → Type 0
 LeavesBase first now = Survives [] None [] first now
 
--- what an engine keeps is safe since the story at the opening's entry
-abbrev pub SafeSince : KeptData → Story → Story → Type 0
-SafeSince kept first now = (base : BaseData) → OpensTo (files_of first.now.disk) base → IsSafe base first kept now
-
--- what an opening leaves: all that is kept is safe since it began, or no base has changed
-abbrev pub Starts : Result Kept StartFault → Story → Story → Type 0
-Starts (Ok kept) first now = SafeSince (kept_of kept) first now
-Starts (Err why) first now = LeavesBase first now
-
 -- ---- what an opening finds
 
--- Files open to at most one base.
-abbrev pub OpensToOne : Type 0
-OpensToOne = (files : Files) (base other : BaseData) → OpensTo files base → OpensTo files other → base ≡ other
+-- A handle of turns that aren't open gives whatever pages the volume holds, as it tells.
+abbrev pub GivesAll : (Cache → Type 0) → PastData → Type 0
+GivesAll gives past = (pages : List (List ℕ)) → HoldNow pages past.story past.files → gives (unread pages)
 
--- the files open to the base, and the room is what their log has behind its records
-pub record IsFound (files : Files) (found : FoundData) : Type 0 where
-  pub opens : OpensTo files found.base
-  pub records : List (List ImageData)
-  pub tail : IsTail (files_data files) records
-  pub limit_is : found.limit ≡ Some (room_behind records)
+-- What the outside told opened to the base, as each image that a crash might leave or as it reads, and the turns give
+-- its pages. A log that is emptied by itself has no room that could be used up.
+pub record Finds (gives : Cache → Type 0) (past : PastData) (found : FoundData) : Type 0 where
+  pub opens : OpenedTo found.base past
+  pub all : GivesAll gives past
+  pub limit_is : found.limit ≡ None
 
--- The same of the files that a volume tells; of one that doesn't tell nothing is known.
-abbrev pub Finds : Option Files → FoundData → Type 0
-Finds None found = ⊥
-Finds (Some files) found = IsFound files found
-
--- the state has the base that was found, which is sound, and the room
+-- the state has the base that was found, which is sound
 pub record IsStarted (found : FoundData) (state : StateData) : Type 0 where
   pub sound : IsSoundBase found.base
   pub base_is : state.base ≡ Some found.base
   pub limit_is : state.limit ≡ found.limit
-
--- so has what is kept of the opening
-pub record IsStartedKept (found : FoundData) (k : Kept) : Type 0 where
-  pub sound : IsSoundBase found.base
-  pub rows_are : base_with (rows_of k.table.0) ≡ found.base
-  pub limit_is : Some k.room ≡ found.limit
 
 -- nothing has been committed, and nothing has failed
 pub record IsFresh (state : StateData) : Type 0 where
@@ -100,11 +74,10 @@ pub record IsOpenedSince (before log_before : ℕ) (opening : OpeningData) : Typ
   pub faults : before ≤ opening.faults
   pub log_faults : opening.log_faults ≡ log_before
 
--- They are those of the volume then, and so is the moment.
-pub record IsOpenedAt (now log_now at : ℕ) (opening : OpeningData) : Type 0 where
+-- They are those of the volume then.
+pub record IsOpenedAt (now log_now : ℕ) (opening : OpeningData) : Type 0 where
   pub faults : opening.faults ≡ now
   pub log_faults : opening.log_faults ≡ log_now
-  pub moment : opening.moment ≡ at
 
 -- ---- since then
 
@@ -116,18 +89,23 @@ IsHaltedSince faults_old faults_new log_faults_old log_faults_new None = log_fau
 IsHaltedSince faults_old faults_new log_faults_old log_faults_new (Some faults) =
     Rose faults_old faults × (faults ≤ faults_new) × Rose log_faults_old log_faults_new
 
--- What a volume's counts say of the state of the engine over it, and of the causes of its answers: Fault was answered
--- only where a call failed and commits have ended.
+-- how often Device or Fault was answered
+abbrev pub troubles_of : Causes → ℕ
+troubles_of causes = causes.device + causes.fault
+
+-- so many calls have failed since the count stood at this, or it stands at the end of a `u64`
+abbrev pub HasRisenBy : ℕ → ℕ → ℕ → Type 0
+HasRisenBy many before now = min (before + many) (2 ^ 64 - 1) ≤ now
+
+-- What the counts of the device that was last given say of the state, and of the causes of its answers.
 pub record IsCounted (state : StateData) (causes : Causes) (faults log_faults : ℕ) : Type 0 where
   pub later : state.opening.faults ≤ faults
   pub log_later : state.opening.log_faults ≤ log_faults
   pub halted : IsHaltedSince state.opening.faults faults state.opening.log_faults log_faults state.halted
-  pub faulted : 0 < causes.fault → Rose state.opening.faults faults
-  pub faultless : state.halted ≡ None → causes.fault ≡ 0
+  pub troubled : HasRisenBy (troubles_of causes) state.opening.faults faults
 
--- An engine's state is told: its base, whose records have real identifiers, the pages that it uses, the feed and what
--- the log has room for. An entry is in doubt only where commits have ended, and no answer had a cause that pages in
--- memory can't have.
+-- An engine's state is told: its base, whose records have real identifiers, the pages that it uses and the feed. An
+-- entry is in doubt only where commits have ended, and no page was damaged.
 pub record IsKeptState (state : StateData) (causes : Causes) : Type 0 where
   pub base : BaseData
   pub base_is : state.base ≡ Some base
@@ -136,10 +114,9 @@ pub record IsKeptState (state : StateData) (causes : Causes) : Type 0 where
   pub feed : List EntryData
   pub feed_is : state.feed ≡ Some feed
   pub front_is : state.front ≡ length feed
-  pub limit : ℕ
-  pub limit_is : state.limit ≡ Some limit
+  pub limit_is : state.limit ≡ None
   pub doubted : IsSome state.doubt → IsSome state.halted
-  pub inside : (causes.device ≡ 0) × (causes.busy ≡ 0) × (causes.damaged ≡ 0)
+  pub inside : causes.damaged ≡ 0
 
 -- what stays of an engine through each call: what was sound since an earlier moment is so, and the opening is the same
 pub record StaysOpen {R : Type 0} (keeps : R → StateData) (holds : R → PastData → Type 0)

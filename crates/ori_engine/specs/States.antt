@@ -1,17 +1,12 @@
 -- What an engine keeps, as plain data, and the state that it stands for.
-use Rattle.std.specs.Prelude.{◌≡◌, ◌⊎◌, ℕ, ◌+◌, ◌-◌, ◌<◌, ◌≤◌, List, [], ◌∷◌, ◌++◌, length, Option, Some, None}
-use Rattle.std.specs.Prelude.{option_map, Result, Ok, Err, vec_len, vec_capacity, ⊤}
+use Rattle.std.specs.Prelude.{◌≡◌, ◌⊎◌, ℕ, ◌+◌, ◌<◌, ◌≤◌, List, [], ◌∷◌, ◌++◌, length, Option, Some, None, option_map}
+use Rattle.std.specs.Prelude.{Result, Ok, Err, vec_len, vec_capacity, ⊤}
 use Rattle.ori_bytes.specs.declared.limits.TheConstants.{MAX_FEED_ENTRIES, MAX_FEED_BYTES}
 use Rattle.ori_volume.specs.Causes.{Rose}
-use Rattle.ori_volume.specs.Disk.{Files}
-use Rattle.ori_volume.specs.Story.{Story}
-use Rattle.ori_spec_data.specs.Base.{BaseData, TxData, AskedData, asks_commit}
+use Rattle.ori_spec_data.specs.Base.{TxData, AskedData, asks_commit}
 use Rattle.ori_spec_data.specs.Asked.{fresh_by, entry_on}
 use Rattle.ori_spec_data.specs.Keeping.{OpeningData, StateData, DecisionData, fault, device, busy, damaged, bytes_with}
 use Rattle.ori_spec_data.specs.Keeping.{Decides}
-use Rattle.ori_log.specs.Log.{ImageData}
-use Rattle.ori_log.specs.Appending.{need_of, Appends, AppendsFiles}
-use Rattle.ori_log.specs.declared.log.Log.{Log}
 use Rattle.ori_model.specs.declared.fault.CommitFault.{CommitFault}
 use Rattle.ori_model.specs.Data.{entry_of, entries_of}
 use Rattle.ori_engine.specs.Doubts.{doubt_of, entry_in_doubt}
@@ -21,27 +16,27 @@ use Rattle.ori_table.specs.Staged.{IsStaged}
 use Rattle.ori_decide.specs.Told.{told}
 use Rattle.ori_engine.specs.declared.kept.Kept.{Kept}
 use Rattle.ori_engine.specs.declared.prepared.Prepared.{Prepared}
-use Rattle.ori_engine.specs.Commits.{KeptData, IsSafe}
+use Rattle.ori_engine.specs.Safety.{KeptData}
 
-abbrev pub kept_of : Kept → KeptData
-kept_of k = record {
+-- where commits have ended or not
+abbrev pub kept_of : Kept → Option ℕ → KeptData
+kept_of k halted = record {
   rows = rows_of k.table.0;
-  log = k.log;
-  room = k.room;
   feed = entries_of k.feed.items;
   marks = k.marks.items;
-  halted = k.halted;
+  halted = halted;
   doubt = option_map doubt_of k.doubt;
 }
 
-abbrev pub state_of : Kept → OpeningData → StateData
-state_of k opening = record {
+-- The log is emptied by itself, so there is no room that could be used up.
+abbrev pub state_of : Kept → Option ℕ → OpeningData → StateData
+state_of k halted opening = record {
   base = Some (base_with (rows_of k.table.0));
   feed = Some (entries_of k.feed.items);
   in_use = Some (length (rows_of k.table.0) + 1);
-  limit = Some k.room;
+  limit = None;
   front = length k.feed.items;
-  halted = k.halted;
+  halted = halted;
   doubt = entry_in_doubt (option_map doubt_of k.doubt);
   opening = opening;
 }
@@ -50,12 +45,10 @@ state_of k opening = record {
 pub record IsNewlyKept (k : Kept) : Type 0 where
   pub feed : k.feed.items ≡ []
   pub marks : k.marks.items ≡ []
-  pub halted : k.halted ≡ None
   pub doubt : k.doubt ≡ None
 
--- nothing stands against what is asked so far
+-- the feed has room for what is asked
 pub record IsAskedOf (k : Kept) (asked : AskedData) : Type 0 where
-  pub going : k.halted ≡ None
   pub entries : length k.feed.items < MAX_FEED_ENTRIES
   pub bytes : bytes_with (entries_of k.feed.items) asked ≤ MAX_FEED_BYTES
 
@@ -73,11 +66,6 @@ pub record HasRoom (more : ℕ) (k : Kept) : Type 0 where
   pub marks : vec_len k.marks < vec_capacity k.marks
   pub rows : more ≤ k.table.1
 
--- what is safe stays so
-abbrev pub StaysSafe : KeptData → KeptData → Story → Story → Type 0
-StaysSafe old_kept new_kept old new = (base : BaseData) (first : Story) → IsSafe base first old_kept old
-    → IsSafe base first new_kept new
-
 -- Commits go on as before, and no call on the log failed; or they ended here, by one that did, when so many calls had
 -- failed.
 abbrev pub HaltsBy : Option ℕ → Option ℕ → ℕ → ℕ → ℕ → ℕ → Type 0
@@ -85,39 +73,27 @@ HaltsBy old new faults_old faults_new log_old log_new =
     ((new ≡ old) × (log_new ≡ log_old))
     ⊎ ((old ≡ None) × (new ≡ Some faults_new) × Rose faults_old faults_new × Rose log_old log_new)
 
--- an entry that was accepted has its mark, the moment of the return, and no other answer gives one
+-- an entry that was accepted has its mark, this moment, and no other answer gives one
 abbrev pub IsMarked : {T E : Type 0} → List ℕ → List ℕ → ℕ → Result T E → Type 0
 IsMarked old new moment (Ok _) = new ≡ old ++ moment ∷ []
 IsMarked old new moment (Err _) = new ≡ old
 
--- Rows in memory are never read from a device, no turn is waited for, and no page of theirs is damaged.
+-- before a page is asked for, nothing is read from the device, no turn is waited for, and no page is damaged
 abbrev pub IsInside : DecisionData → Type 0
 IsInside device = ⊥
 IsInside (busy turn) = ⊥
 IsInside (damaged page) = ⊥
 IsInside decision = ⊤
 
+-- no page of the rows is damaged
+abbrev pub IsWhole : DecisionData → Type 0
+IsWhole (damaged page) = ⊥
+IsWhole decision = ⊤
+
 -- What is asked is refused so, whatever the opening was, and nothing has changed; no write failed.
-pub record Refuses (k : Kept) (session : ℕ) (asked : AskedData) (why : CommitFault) : Type 0 where
-  pub decides : (opening : OpeningData) → Decides (state_of k opening) session asked (told why) (state_of k opening)
+pub record Refuses (k : Kept) (halted : Option ℕ) (session : ℕ) (asked : AskedData) (why : CommitFault)
+    : Type 0 where
+  pub decides : (opening : OpeningData) → Decides (state_of k halted opening) session asked (told why)
+      (state_of k halted opening)
   pub no_fault : told why ≡ fault → ⊥
   pub inside : IsInside (told why)
-
--- ---- what a commit writes
-
--- The images of a transaction were written as one record of the log, or not; those of none weren't, and nothing was.
-abbrev pub Writes : {T E : Type 0} → Log → Log → List ImageData → Result T E → Story → Story → Type 0
-Writes old_log new_log [] result old new = (new_log ≡ old_log) × (new ≡ old)
-Writes old_log new_log (image ∷ images) result old new = Appends old_log new_log (image ∷ images) result old new
-
--- the same of the bytes alone
-abbrev pub WritesFiles : {T E : Type 0} → Log → Log → List ImageData → Result T E → Files → Files → Type 0
-WritesFiles old_log new_log [] result old new = (new_log ≡ old_log) × (new ≡ old)
-WritesFiles old_log new_log (image ∷ images) result old new =
-    AppendsFiles old_log new_log (image ∷ images) result old new
-
--- the log has one record more, or is as it was where there was none
-abbrev pub Grows : Log → Log → List ImageData → Type 0
-Grows old new [] = new ≡ old
-Grows old new (image ∷ images) =
-    (new.tail ≡ old.tail + 1) × (new.place ≡ old.place + (need_of (image ∷ images) - 1)) × (new.file ≡ old.file)

@@ -1,5 +1,8 @@
 // An operation's pages as a space.
-ghost use Rattle.std.specs.Prelude.{◌≡◌, ℕ, List};
+ghost use Rattle.std.specs.Prelude.{◌≡◌, ◌≢◌, ◌<◌, ℕ, List, slice_set, IfErr, OnOk};
+ghost use Rattle.ori_page.specs.Pages.{owner_of};
+ghost use Rattle.ori_page.specs.Spaces.{KeepsFreeList};
+ghost use Rattle.ori_page.specs.Faults.{page_counted, IsOutside};
 ghost use Rattle.ori_page.specs.Memory.{damaged_counted};
 ghost use Rattle.ori_overlay.specs.Changed.{Shows};
 
@@ -56,7 +59,23 @@ impl<S: PageSource> PageSpace for Overlay<S> {
         self.get(page)
     }
 
-    fn write(&mut self, page: u32, content: Page) -> Result<(), PageFault> {
+    // The pages stand over the same ones of the source.
+    fn write(&mut self, page: u32, content: Page) -> Result<(), PageFault>
+        requires page { page < self.old.changes.count }
+        requires owner { owner_of content ≢ 0 }
+        ensures shows { OnOk result ((base pages : List (List ℕ)) → S.gives self.old.source base
+            → Shows self.old.changes base pages → Shows self.new.changes base (slice_set pages page content)) }
+        ensures pages { OnOk result ((pages : List (List ℕ)) → ⟦<Overlay<S> as PageSpace>⟧.gives self.old pages
+            → ⟦<Overlay<S> as PageSpace>⟧.gives self.new (slice_set pages page content)) }
+        ensures listed { (pages : List (List ℕ)) → ⟦<Overlay<S> as PageSpace>⟧.gives self.old pages
+            → KeepsFreeList page content pages (slice_set pages page content) }
+        ensures count { OnOk result (self.new.changes.count ≡ self.old.changes.count) }
+        ensures fault { IfErr result IsOutside }
+        ensures keeps { ⟦<Overlay<S> as PageSpace>⟧.keeps self.old self.new }
+        ensures causes { ⟦<Overlay<S> as PageSpace>⟧.causes self.new
+            ≡ page_counted result (⟦<Overlay<S> as PageSpace>⟧.causes self.old) }
+        ensures reads { self.new.reads ≡ self.old.reads }
+    {
         self.put(page, content)
     }
 

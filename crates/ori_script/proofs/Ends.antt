@@ -14,7 +14,9 @@ use Rattle.ori_spec_data.specs.Histories.{IsLegalHistory}
 use Rattle.ori_spec_data.specs.Soundness.{IsSoundBase}
 use Rattle.ori_spec_texts.specs.Line.{LineData, statement, tries, step, reopen, StopData, at_end, at_bad_line}
 use Rattle.ori_spec_texts.specs.Line.{at_limit, Splits}
-use Rattle.ori_spec_texts.specs.Line.{Gives, Reads, IsSaid}
+use Rattle.ori_spec_texts.specs.Line.{Gives, Reads, IsSaid, StepData, IsStepText, flush, settle, checkpoint, history}
+use Rattle.ori_spec_texts.specs.Line.{bag}
+use Rattle.ori_spec_texts.specs.Line.{check}
 use Rattle.ori_spec_texts.specs.Reply.{AnswerData, answer_text, answers_text, tells_fault}
 use Rattle.ori_spec_crash.specs.Crash.{doubts}
 use Rattle.ori_spec_runs.specs.Answer.{closed}
@@ -28,21 +30,33 @@ use Rattle.ori_text.specs.LineReading.{Moves, HoldsPart, IsLine, IsEndOfInput, I
 use Rattle.ori_text.proofs.Splitting.{joined-append, AreWhole-append, parts_of}
 use Rattle.ori_text.proofs.Reading.{no_long}
 use Rattle.ori_spec_data.specs.Limits.{FoundData}
-use Rattle.ori_engine.specs.Openings.{Finds, IsStarted, IsFresh}
+use Rattle.ori_engine.specs.Openings.{IsStarted, IsFresh}
+use Rattle.ori_script.specs.Founds.{Finds}
 use Rattle.ori_script.specs.declared.run.Turn.{Turn}
 use Rattle.ori_script.specs.declared.run.Turn.TheVariants.{Answered, Reopens, Ended}
-use Rattle.ori_script.specs.Keeping.{StoreData, KeptData, Keeps, TellsHalted, IsOfSession, IsStepped, reopenings}
-use Rattle.ori_script.specs.Script.{FailsToOpen, Ends, left_of, RunsTo, RanTo, HadFailed, HadHalted, HasRead}
+use Rattle.ori_script.specs.Keeping.{StoreData, KeptData, Keeps, TellsHalted, IsOfPart, IsOfSession, IsStepped}
+use Rattle.ori_script.specs.Keeping.{reopenings}
+use Rattle.ori_script.specs.Script.{FailsToOpen, Ends, left_of, PassedData, passed_by, RunsTo, RanTo, HadFailed}
+use Rattle.ori_script.specs.Script.{HadHalted, HasRead}
 use Rattle.ori_script.specs.Script.{HasAnswered, GoesOn, AsksReopening, HasEnded}
 use Rattle.ori_script.specs.Turns.{TurnsBy, IsTurned, fault_status}
 use Rattle.ori_script.proofs.Runs.{Run-then, answers_text-append, only, moved}
 
 -- ---- a line that was said is of a session
 
+said_part : (s : StepData) (text : List ℕ) → IsStepText text s → IsOfPart s
+said_part (flush part) text h = h.0
+said_part settle text h = tt
+said_part checkpoint text h = tt
+said_part reopen text h = tt
+said_part history text h = tt
+said_part (bag vertex dir class) text h = tt
+said_part check text h = tt
+
 said_session : (line : List ℕ) (end : ℕ) (said : LineData) → IsSaid line end said → IsOfSession said
 said_session line end (statement session text) p = (omega (arith, p.says.0.0), p.says.0.1)
 said_session line end (tries session count text) p = (omega (arith, p.says.0.0), p.says.0.1)
-said_session line end (step s) p = tt
+said_session line end (step s) p = said_part s p.says.0 p.says.1
 
 pub line_session : (at : ℕ) (lines : List (List ℕ)) (line : LineData) → Reads at lines (line ∷ []) at_end
     → IsOfSession line
@@ -220,8 +234,8 @@ ran_to files found said answers kept finds r =
       halted_is = r.keeps.halted;
     }
 
-module _ (files : Option Files) (halts : List (Option ℕ)) (l0 l1 l2 t0 t1 : Option (List ℕ)) (old new : Reading)
-    (kept : KeptData) (g : GoesOn files halts l0 l1 t0 t1 old kept) where
+module _ (files : Option Files) (passed : PassedData) (l0 l1 l2 t0 t1 : Option (List ℕ)) (old new : Reading)
+    (kept : KeptData) (g : GoesOn files passed l0 l1 t0 t1 old kept) where
   before : HasRead l0 l1 old g.said at_end
   before = subst (λ (s : List LineData). HasRead l0 l1 old s at_end) (append-nil g.said) g.read
 
@@ -229,7 +243,7 @@ module _ (files : Option Files) (halts : List (Option ℕ)) (l0 l1 l2 t0 t1 : Op
   ended_at : (stop : StopData) (status : ℕ) (ended : Bool) (unread : List (List ℕ))
       (m : HasRead l0 l2 new (g.said ++ []) stop)
       → (IsTrue ended → IsAtEnd l2) → Gives ended m.input (m.lines ++ unread) → Ends status ended unread [] stop []
-      → HasEnded files halts l0 l2 t0 t1 status kept.store
+      → HasEnded files passed l0 l2 t0 t1 status kept.store
   ended_at stop status ended unread m over gives ends = record {
     answers = g.answers;
     run = record {
@@ -254,14 +268,14 @@ module _ (files : Option Files) (halts : List (Option ℕ)) (l0 l1 l2 t0 t1 : Op
     told = g.told;
   }
 
-  pub input_ended : IsEndOfInput l1 l2 old new → HasEnded files halts l0 l2 t0 t1 0 kept.store
+  pub input_ended : IsEndOfInput l1 l2 old new → HasEnded files passed l0 l2 t0 t1 0 kept.store
   input_ended e =
       let m = moved l0 l1 l2 old new g.said [] at_end before e.moves in
       ended_at at_end 0 true [] m (λ _. m.source_end e.ended)
       (all_given l0 l2 new (g.said ++ []) at_end m e.nothing_held)
       (inl (refl, refl, refl, refl, refl, refl))
 
-  source_failed : (f f' : ℕ) → IsSourceFault l1 l2 f f' old new → HasEnded files halts l0 l2 t0 t1 3 kept.store
+  source_failed : (f f' : ℕ) → IsSourceFault l1 l2 f f' old new → HasEnded files passed l0 l2 t0 t1 3 kept.store
   source_failed f f' e =
       let m = moved l0 l1 l2 old new g.said [] at_end before e.moves in
       ended_at at_end 3 false [] m (λ h. absurd (cc (h))) (whole_given l0 l2 new (g.said ++ []) m e.part e.goes_on)
@@ -270,14 +284,14 @@ module _ (files : Option Files) (halts : List (Option ℕ)) (l0 l1 l2 t0 t1 : Op
   -- reading stopped
   stopped : (stop : StopData) (status : ℕ) → Moves l1 l2 old new [] stop
       → ((ended : Bool) (unread : List (List ℕ)) → Ends status ended unread [] stop [])
-      → HasEnded files halts l0 l2 t0 t1 status kept.store
+      → HasEnded files passed l0 l2 t0 t1 status kept.store
   stopped stop status e ends =
       let m = moved l0 l1 l2 old new g.said [] stop before e in
       let b = given_of l0 l2 new (g.said ++ []) stop m in
       ended_at stop status b.ended b.unread m (λ h. m.source_end (b.only h)) b.given (ends b.ended b.unread)
 
   pub line_failed : (f f' : ℕ) (fault : LineFault) → IsFault l1 l2 f f' old new fault
-      → HasEnded files halts l0 l2 t0 t1 (fault_status fault) kept.store
+      → HasEnded files passed l0 l2 t0 t1 (fault_status fault) kept.store
   line_failed f f' faults.Source e = source_failed f f' e
   line_failed f f' faults.Bad e =
       stopped at_bad_line 8 e (λ _ _. inr (inr (inr (inr (inl (refl, refl, refl, refl))))))
@@ -287,9 +301,9 @@ module _ (files : Option Files) (halts : List (Option ℕ)) (l0 l1 l2 t0 t1 : Op
 
 -- ---- after a line
 
--- What a line does to what is kept, where an opening found this; and what its answer tells. The counts of faults at
--- which commits ended in earlier openings are these after it.
-pub record IsStep (files : Option Files) (before after : List (Option ℕ)) (old : KeptData) (line : LineData)
+-- What a line does to what is kept, where an opening found this; and what its answer tells. The earlier openings passed
+-- so, before it and after it.
+pub record IsStep (files : Option Files) (before after : PassedData) (old : KeptData) (line : LineData)
     (answer : AnswerData) (new : KeptData) : Type 0 where
   pub steps : (found : FoundData) → Finds files found → (run : RunData) → Keeps old run
       → (next : RunData) × Step run line answer next × Keeps new next
@@ -297,7 +311,7 @@ pub record IsStep (files : Option Files) (before after : List (Option ℕ)) (old
   pub failed_stays : HadFailed before old.store → HadFailed after new.store
   pub halted_told : (at : ℕ) → TellsHalted at answer → HadHalted after new.store at
   pub halted_stays : (at : ℕ) → HadHalted before old.store at → HadHalted after new.store at
-  pub counted : length after ≡ length before + reopenings (line ∷ [])
+  pub counted : length after.halts ≡ length before.halts + reopenings (line ∷ [])
   pub few : length new.store.failed ≤ length old.store.failed + reopenings (line ∷ [])
 
 -- the run with one line more
@@ -350,26 +364,26 @@ any_longer P (z ∷ xs) ys (suc k, x, within, is, has) =
     let r = any_longer P xs ys (k, x, omega arith, is, has) in (suc r.0, r.1, omega (arith, r.2), r.3, r.4)
 
 -- a line that asks for no reopening
-plain_step : (files : Option Files) (halts : List (Option ℕ)) (old : KeptData) (line : LineData) (answer : AnswerData)
-    (new : KeptData) → IsStepped old line answer new → IsStep files halts halts old line answer new
-plain_step files halts old line answer new s = record {
+plain_step : (files : Option Files) (passed : PassedData) (old : KeptData) (line : LineData) (answer : AnswerData)
+    (new : KeptData) → IsStepped old line answer new → IsStep files passed passed old line answer new
+plain_step files passed old line answer new s = record {
   steps = λ found finds. s.steps;
   fault_told = λ told. inr (s.fault_told told);
   failed_stays = λ had. elim had [
     | inl earlier ↦ inl earlier
     | inr now ↦ inr (s.failed_stays now)
   ];
-  halted_told = λ at told. Any-push (λ h. h ≡ Some at) halts new.store.state.halted (s.halted_told at told);
-  halted_stays = λ at had. elim (some_push (λ h. h ≡ Some at) halts old.store.state.halted had) [
-    | inl earlier ↦ any_longer (λ h. h ≡ Some at) halts (new.store.state.halted ∷ []) earlier
-    | inr now ↦ Any-push (λ h. h ≡ Some at) halts new.store.state.halted (s.halted_stays at now)
+  halted_told = λ at told. Any-push (λ h. h ≡ Some at) passed.halts new.store.state.halted (s.halted_told at told);
+  halted_stays = λ at had. elim (some_push (λ h. h ≡ Some at) passed.halts old.store.state.halted had) [
+    | inl earlier ↦ any_longer (λ h. h ≡ Some at) passed.halts (new.store.state.halted ∷ []) earlier
+    | inr now ↦ Any-push (λ h. h ≡ Some at) passed.halts new.store.state.halted (s.halted_stays at now)
   ];
   counted = omega (arith, s.plain);
   few = omega (arith, ap (λ (ds : List (ℕ × EntryData)). length ds) s.same_failed);
 }
 
 -- what the answers tell, with one more
-told_more : (files : Option Files) (before after : List (Option ℕ)) (said : List LineData) (answers : List AnswerData)
+told_more : (files : Option Files) (before after : PassedData) (said : List LineData) (answers : List AnswerData)
     (kept next : KeptData) (line : LineData) (answer : AnswerData) → HasAnswered before said answers kept.store
     → IsStep files before after kept line answer next
     → HasAnswered after (said ++ line ∷ []) (answers ++ answer ∷ []) next.store
@@ -384,7 +398,7 @@ told_more files before after said answers kept next line answer told s =
     }
 
 -- A line was run, and of its answer's text a part was given.
-module _ (files : Option Files) (before after : List (Option ℕ)) (l0 l2 t0 t1 t2 : Option (List ℕ)) (new : Reading)
+module _ (files : Option Files) (before after : PassedData) (l0 l2 t0 t1 t2 : Option (List ℕ)) (new : Reading)
     (kept next : KeptData) (line : LineData) (said : List LineData) (answers : List AnswerData)
     (read : HasRead l0 l2 new (said ++ line ∷ []) at_end)
     (run : (found : FoundData) → Finds files found → RunsTo found said answers kept)
@@ -447,8 +461,8 @@ module _ (files : Option Files) (before after : List (Option ℕ)) (l0 l2 t0 t1 
         told = told_more files before after said answers kept next line answer told s;
       }
 
-module _ (files : Option Files) (halts : List (Option ℕ)) (l0 l1 l2 t0 t1 t2 : Option (List ℕ)) (old new : Reading)
-    (kept : KeptData) (line : Line) (next : KeptData) (g : GoesOn files halts l0 l1 t0 t1 old kept)
+module _ (files : Option Files) (passed : PassedData) (l0 l1 l2 t0 t1 t2 : Option (List ℕ)) (old new : Reading)
+    (kept : KeptData) (line : Line) (next : KeptData) (g : GoesOn files passed l0 l1 t0 t1 old kept)
     (e : IsLine l1 l2 old new line) where
   with_line : HasRead l0 l2 new (g.said ++ line_of line ∷ []) at_end
   with_line =
@@ -456,14 +470,14 @@ module _ (files : Option Files) (halts : List (Option ℕ)) (l0 l1 l2 t0 t1 t2 :
       (subst (λ (s : List LineData). HasRead l0 l1 old s at_end) (append-nil g.said) g.read) e.moves
 
   pub after_line : (turn : Turn) → TurnsBy kept (line_of line) t1 t2 turn next
-      → IsTurned files halts l0 l2 t0 t2 new next turn
+      → IsTurned files passed l0 l2 t0 t2 new next turn
   after_line Answered a =
-      went_on files halts halts l0 l2 t0 t1 t2 new kept next (line_of line) g.said g.answers with_line g.run g.told
+      went_on files passed passed l0 l2 t0 t1 t2 new kept next (line_of line) g.said g.answers with_line g.run g.told
       g.gave a.answer
-      (plain_step files halts kept (line_of line) a.answer next a.stepped) a.output a.unprinted a.text a.gave
+      (plain_step files passed kept (line_of line) a.answer next a.stepped) a.output a.unprinted a.text a.gave
       a.printed
   after_line Reopens a =
-      subst (λ (k : KeptData). AsksReopening files halts l0 l2 t0 t2 new k) (sym a.2) (record {
+      subst (λ (k : KeptData). AsksReopening files passed l0 l2 t0 t2 new k) (sym a.2) (record {
         said = g.said;
         read = subst (λ (x : LineData). HasRead l0 l2 new (g.said ++ x ∷ []) at_end) a.0 with_line;
         answers = g.answers;
@@ -472,23 +486,23 @@ module _ (files : Option Files) (halts : List (Option ℕ)) (l0 l1 l2 t0 t1 t2 :
         gave = subst (λ (t : Option (List ℕ)). Gave t0 t (answers_text g.answers)) (sym a.1) g.gave;
       })
   after_line (Ended status) a =
-      cut_off files halts halts l0 l2 t0 t1 t2 new kept next (line_of line) g.said g.answers with_line g.run g.told
+      cut_off files passed passed l0 l2 t0 t1 t2 new kept next (line_of line) g.said g.answers with_line g.run g.told
       g.gave a.answer
-      (plain_step files halts kept (line_of line) a.answer next a.stepped) a.output a.unprinted a.text a.gave
+      (plain_step files passed kept (line_of line) a.answer next a.stepped) a.output a.unprinted a.text a.gave
       status a.printed
 
 -- ---- a reopening that failed
 
 -- a run has ended behind a line that asked for a reopening
-pub record IsLate (files : Option Files) (halts : List (Option ℕ)) (l0 l1 t0 t1 : Option (List ℕ)) (status : ℕ)
+pub record IsLate (files : Option Files) (passed : PassedData) (l0 l1 t0 t1 : Option (List ℕ)) (status : ℕ)
     (store : StoreData) : Type 0 where
-  pub ended : HasEnded files halts l0 l1 t0 t1 status store
+  pub ended : HasEnded files passed l0 l1 t0 t1 status store
   pub late : ended.run.late ≡ step reopen ∷ []
 
-pub late_failed : (files : Option Files) (halts : List (Option ℕ)) (l0 l1 t0 t1 : Option (List ℕ)) (old : Reading)
-    (kept : KeptData) (status : ℕ) → AsksReopening files halts l0 l1 t0 t1 old kept → FailsToOpen status
-    → IsLate files halts l0 l1 t0 t1 status kept.store
-late_failed files halts l0 l1 t0 t1 old kept status g why =
+pub late_failed : (files : Option Files) (passed : PassedData) (l0 l1 t0 t1 : Option (List ℕ)) (old : Reading)
+    (kept : KeptData) (status : ℕ) → AsksReopening files passed l0 l1 t0 t1 old kept → FailsToOpen status
+    → IsLate files passed l0 l1 t0 t1 status kept.store
+late_failed files passed l0 l1 t0 t1 old kept status g why =
     let b = given_of l0 l1 old (g.said ++ step reopen ∷ []) at_end g.read in
     record {
       ended = record {
@@ -542,7 +556,8 @@ begun_keeps found kept begun = record {
 }
 
 module _ (files : Option Files) (left taken : Option (List ℕ)) (kept : KeptData)
-    (begun : (found : FoundData) → Finds files found → IsBegun found kept) (none : kept.store.failed ≡ []) where
+    (begun : (found : FoundData) → Finds files found → IsBegun found kept) (none : kept.store.failed ≡ [])
+    (first : ℕ) where
   runs_none : (found : FoundData) → Finds files found → RunsTo found [] [] kept
   runs_none found finds = record {
     now = run_start found;
@@ -553,7 +568,7 @@ module _ (files : Option Files) (left taken : Option (List ℕ)) (kept : KeptDat
   none_told : {T : Type 0} (P : AnswerData → Type 0) → Any P [] → T
   none_told P found = absurd (omega (arith, found.2))
 
-  nothing_told : HasAnswered [] [] [] kept.store
+  nothing_told : HasAnswered (passed_by [] first first) [] [] kept.store
   nothing_told = record {
     fault_told = none_told (λ x. IsTrue (tells_fault x));
     halted_told = λ at. none_told (λ x. TellsHalted at x);
@@ -562,9 +577,10 @@ module _ (files : Option Files) (left taken : Option (List ℕ)) (kept : KeptDat
   }
 
   pub started : (reading : Reading) → reading ≡ record { given = 0; held = []; ended = false }
-      → GoesOn files [] left left taken taken reading kept
+      → GoesOn files (passed_by [] first first) left left taken taken reading kept
   started reading fresh =
-      subst (λ (r : Reading). GoesOn files [] left left taken taken r kept) (sym fresh) (record {
+      subst (λ (r : Reading). GoesOn files (passed_by [] first first) left left taken taken r kept) (sym fresh)
+      (record {
         said = [];
         read = record {
           input = [];
@@ -583,7 +599,7 @@ module _ (files : Option Files) (left taken : Option (List ℕ)) (kept : KeptDat
       })
 
   -- before anything is read memory may run out
-  pub not_begun : HasEnded files [] left left taken taken 2 kept.store
+  pub not_begun : HasEnded files (passed_by [] first first) left left taken taken 2 kept.store
   not_begun = record {
     answers = [];
     run = record {

@@ -1,10 +1,11 @@
 -- A run from its first opening on.
-use Rattle.std.proofs.Common.{◌≡◌, ◌⊎◌, ℕ, ◌≤◌, false, List, [], ◌∷◌, ◌++◌, length, replicate, Option, Some, None, IfSome}
+use Rattle.std.proofs.Common.{◌≡◌, ◌⊎◌, ℕ, ◌≤◌, false, List, [], ◌∷◌, ◌++◌, length, replicate, Option, Some, None}
+use Rattle.std.proofs.Common.{IfSome}
 use Rattle.std.proofs.Common.{refl}
 use Rattle.std.proofs.Common.{sym, ap, ◌∙◌, subst, inl, inr, arith}
 use Rattle.ori_bytes.specs.declared.limits.TheConstants.{MAX_SESSIONS}
 use Rattle.ori_volume.specs.Disk.{Files, files_of, IsImage}
-use Rattle.ori_volume.specs.Story.{Story, Tells, moment_of}
+use Rattle.ori_volume.specs.Story.{Story, moment_of}
 use Rattle.ori_volume.proofs.Known.{some_told}
 use Rattle.ori_spec_data.specs.Base.{BaseData}
 use Rattle.ori_spec_data.specs.Keeping.{OpeningData}
@@ -15,11 +16,12 @@ use Rattle.ori_spec_runs.specs.Answer.{SessionData, closed}
 use Rattle.ori_rows.specs.Stage.{OpensTo}
 use Rattle.ori_text.specs.Lines.{Reading}
 use Rattle.ori_model.specs.Standing.{PastData}
-use Rattle.ori_engine.specs.Openings.{Finds, IsStarted, IsOpenedSince}
+use Rattle.ori_engine.specs.Openings.{IsStarted, IsOpenedSince}
+use Rattle.ori_script.specs.Founds.{Finds}
 use Rattle.ori_engine.specs.Reopening.{OpensWhole}
 use Rattle.ori_script.specs.Pasts.{EarlierData, nothing_earlier}
 use Rattle.ori_script.specs.Keeping.{KeptData, store_behind}
-use Rattle.ori_script.specs.Script.{GoesOn, AsksReopening, HasEnded}
+use Rattle.ori_script.specs.Script.{PassedData, passed_by, GoesOn, AsksReopening, HasEnded}
 use Rattle.ori_script.specs.Turns.{SaysDone}
 use Rattle.ori_script.specs.Top.{CountsData, HaltBetween}
 use Rattle.ori_script.specs.Openings.{VolumeData, EngineData, Begins, TellsOne, LeadsOver, GoesBehind}
@@ -39,15 +41,14 @@ some_by (Some x) P each = each x refl
 first_leads : (entry : VolumeData) (engine : EngineData) (volume : VolumeData) (b : Begins entry engine volume)
     (first : Option Story) → entry.told.story ≡ first
     → LeadsOver nothing_earlier first entry.told.story volume.told.story
-first_leads entry engine volume b None is =
-    (is, subst (λ (o : Option Story). Tells OpensWhole o volume.told.story) is b.stands)
-first_leads entry engine volume b (Some s) is =
-    let y = told_of OpensWhole entry.told.story volume.told.story s is b.stands in (
+first_leads entry engine volume b None is = tt
+first_leads entry engine volume b (Some s) is = λ base opens.
+    (let y = told_of OpensWhole entry.told.story volume.told.story s is b.stands in (
       s,
       is,
       y.0,
       y.1,
-      λ base opens. record {
+      record {
         mid = base;
         opens = opens;
         opens_at = (y.2 base opens).1 (files_of y.0.now.disk)
@@ -56,7 +57,7 @@ first_leads entry engine volume b (Some s) is =
         within = tt;
         behind = λ feed late after now since since_end. since;
       },
-    )
+    ))
 
 module _ (entry : VolumeData) (engine : EngineData) (volume : VolumeData) (left taken : Option (List ℕ))
     (reading : Reading) (sessions : List SessionData) (one : TellsOne entry.told) (b : Begins entry engine volume)
@@ -90,7 +91,7 @@ module _ (entry : VolumeData) (engine : EngineData) (volume : VolumeData) (left 
     halts = [];
     begun = counts_of entry;
     between = refl;
-    goes_on = started entry.told.files left taken Kept begun_first refl reading fresh;
+    goes_on = started entry.told.files left taken Kept begun_first refl entry.faults reading fresh;
     opened = b.opened_since;
     behind = behind_first;
   }
@@ -125,11 +126,17 @@ module _ (entry : VolumeData) (l0 l1 t0 t1 t2 : Option (List ℕ)) (reading : Re
     (between : HaltBetween halts (counts_of entry) begun)
     (opened : IsOpenedSince begun.faults begun.log_faults old.state.opening)
     (b : StandsBehind old.holds before entry.told) (c : ComesToNext old before after new volume)
-    (asks : AsksReopening entry.told.files halts l0 l1 t0 t1 reading
+    (asks : AsksReopening entry.told.files (passed_by halts entry.faults begun.faults) l0 l1 t0 t1 reading
     (record { store = store_behind before old.state old.causes; sessions = cur }))
     (none_open : next ≡ replicate MAX_SESSIONS closed) where
   abbrev pub Halts : List (Option ℕ)
   Halts = halts ++ old.state.halted ∷ []
+
+  abbrev Before : PassedData
+  Before = passed_by halts entry.faults begun.faults
+
+  abbrev pub After : PassedData
+  After = passed_by Halts entry.faults c.mid.faults
 
   pub next_halts : HaltBetween Halts (counts_of entry) (counts_of c.mid)
   next_halts =
@@ -141,18 +148,20 @@ module _ (entry : VolumeData) (l0 l1 t0 t1 t2 : Option (List ℕ)) (reading : Re
     halts = Halts;
     begun = counts_of c.mid;
     between = next_halts;
-    goes_on = went_on entry.told.files halts Halts l0 l1 t0 t1 t2 reading _ _ (step reopen) asks.said asks.answers
+    goes_on = went_on entry.told.files Before After l0 l1 t0 t1 t2 reading _ _ (step reopen) asks.said asks.answers
         asks.read asks.run asks.told asks.gave to_done
-        (reopen_step entry halts old before after new volume cur next b c none_open) s.output s.unprinted s.text s.gave
+        (reopen_step entry halts begun old before after new volume cur next between opened b c none_open) s.output
+        s.unprinted s.text s.gave
         s.cut;
     opened = c.begins.opened_since;
     behind = stands_next entry old before after new volume one b c;
   }
 
-  pub cut_next : (status : ℕ) (s : SaysDone t1 t2 (Some status)) → HasEnded entry.told.files Halts l0 l1 t0 t2 status
+  pub cut_next : (status : ℕ) (s : SaysDone t1 t2 (Some status)) → HasEnded entry.told.files After l0 l1 t0 t2 status
       (store_behind after new.state new.causes)
   cut_next status s =
-      cut_off entry.told.files halts Halts l0 l1 t0 t1 t2 reading _ _ (step reopen) asks.said asks.answers asks.read
+      cut_off entry.told.files Before After l0 l1 t0 t1 t2 reading _ _ (step reopen) asks.said asks.answers asks.read
       asks.run asks.told asks.gave to_done
-      (reopen_step entry halts old before after new volume cur next b c none_open) s.output s.unprinted s.text s.gave
+      (reopen_step entry halts begun old before after new volume cur next between opened b c none_open) s.output
+      s.unprinted s.text s.gave
       status s.cut

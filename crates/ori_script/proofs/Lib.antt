@@ -3,6 +3,8 @@ mod Counted
 mod Telling
 mod Numbered
 mod Lines
+mod Homes
+mod Soles
 mod Runs
 mod Ends
 mod Outcomes

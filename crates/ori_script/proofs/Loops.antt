@@ -1,5 +1,6 @@
 -- The loop over a run's openings.
-use Rattle.std.proofs.Common.{◌≡◌, ◌⊎◌, ℕ, false, List, [], ◌∷◌, ◌++◌, replicate, Option, Some, None, refl, sym, subst, inl, inr}
+use Rattle.std.proofs.Common.{◌≡◌, ◌⊎◌, ℕ, false, List, [], ◌∷◌, ◌++◌, replicate, Option, Some, None, refl, sym, subst}
+use Rattle.std.proofs.Common.{inl, inr}
 use Rattle.ori_bytes.specs.declared.limits.TheConstants.{MAX_SESSIONS}
 use Rattle.ori_spec_data.specs.Base.{EntryData}
 use Rattle.ori_spec_data.specs.Keeping.{OpeningData}
@@ -10,7 +11,7 @@ use Rattle.ori_engine.specs.Doubts.{DoubtData, entry_in_doubt}
 use Rattle.ori_engine.specs.Openings.{IsOpenedSince}
 use Rattle.ori_script.specs.Pasts.{EarlierData, nothing_earlier}
 use Rattle.ori_script.specs.Keeping.{StoreData, KeptData, store_behind}
-use Rattle.ori_script.specs.Script.{AsksReopening, HasEnded}
+use Rattle.ori_script.specs.Script.{PassedData, passed_by, AsksReopening, HasEnded}
 use Rattle.ori_script.specs.Turns.{SaysDone}
 use Rattle.ori_script.specs.Top.{CountsData, HaltBetween}
 use Rattle.ori_script.specs.Openings.{VolumeData, EngineData, Begins, TellsOne, StandsBehind, StandsAt, HasClosed}
@@ -32,13 +33,15 @@ pub closes_run : (entry : VolumeData) (l0 l1 t0 t1 : Option (List ℕ)) (status 
     → HaltBetween halts (counts_of entry) begun
     → IsOpenedSince begun.faults begun.log_faults engine.state.opening → StandsBehind engine.holds before entry.told
     → result ≡ status → IsOver engine before after told now
-    → HasEnded entry.told.files halts l0 l1 t0 t1 status (store_behind before engine.state engine.causes)
+    → HasEnded entry.told.files (passed_by halts entry.faults begun.faults) l0 l1 t0 t1 status
+    (store_behind before engine.state engine.causes)
     → (status ≡ 5 → ⊥) → (status ≡ 6 → ⊥) → HasRunOver entry l0 l1 t0 t1 result after told now
 closes_run entry l0 l1 t0 t1 status result before after engine told now halts begun between opened b is over_so ended
     no_fault no_form =
     subst (λ (n : ℕ). HasRunOver entry l0 l1 t0 t1 n after told now) (sym is)
     (subst (λ (d : Option EntryData). HasRunOver entry l0 l1 t0 t1 status after d now) (sym over_so.1)
-    (over entry l0 l1 t0 t1 status before after engine over_so.0 now halts begun between opened b over_so.2 ended no_fault
+    (over entry l0 l1 t0 t1 status before after engine over_so.0 now halts begun between opened b over_so.2 ended
+    no_fault
     no_form))
 
 -- ---- before the first line
@@ -54,11 +57,12 @@ module _ (entry : VolumeData) (engine : EngineData) (volume : VolumeData) (left 
       closes_run entry left left taken taken 2 result e after engine told now [] (counts_of entry) refl b.opened_since
       (subst (λ (x : EarlierData). StandsBehind engine.holds x entry.told) (sym first)
       (behind_first entry engine volume left taken blank none one b refl refl)) is ended
-      (subst (λ (x : EarlierData). HasEnded entry.told.files [] left left taken taken 2
+      (subst (λ (x : EarlierData). HasEnded entry.told.files (passed_by [] entry.faults entry.faults) left left taken
+      taken 2
       (store_behind x engine.state engine.causes)) (sym first)
       (not_begun entry.told.files left taken
       (record { store = store_behind nothing_earlier engine.state engine.causes; sessions = none })
-      (begun_first entry engine volume left taken blank none one b refl refl) refl))
+      (begun_first entry engine volume left taken blank none one b refl refl) refl entry.faults))
       (λ five. absurd (cc five)) (λ six. absurd (cc six))
 
   pub begins_lines : (reading : Reading) (sessions : List SessionData)
@@ -82,6 +86,9 @@ module _ (entry : VolumeData) (l0 l1 l2 t0 t1 t2 : Option (List ℕ)) (reading r
   abbrev Now : KeptData
   Now = record { store = Store; sessions = cur }
 
+  abbrev Passed : PassedData
+  Passed = passed_by s.halts entry.faults s.begun.faults
+
   since : IsOpenedSince s.begun.faults s.begun.log_faults engine.state.opening
   since = opened_on entry first engine e before same opening sound s.begun s.opened
 
@@ -90,7 +97,7 @@ module _ (entry : VolumeData) (l0 l1 l2 t0 t1 t2 : Option (List ℕ)) (reading r
 
   pub ends_lines : (status result : ℕ) (after : EarlierData) (told : Option EntryData) (now : VolumeData)
       → result ≡ status → IsOver engine before after told now
-      → HasEnded entry.told.files s.halts l0 l2 t0 t2 status Store → (status ≡ 5 → ⊥) → (status ≡ 6 → ⊥)
+      → HasEnded entry.told.files Passed l0 l2 t0 t2 status Store → (status ≡ 5 → ⊥) → (status ≡ 6 → ⊥)
       → HasRunOver entry l0 l2 t0 t2 result after told now
   ends_lines status result after told now is over_so ended no_fault no_form =
       closes_run entry l0 l2 t0 t2 status result before after engine told now s.halts s.begun s.between since behind is
@@ -98,16 +105,17 @@ module _ (entry : VolumeData) (l0 l1 l2 t0 t1 t2 : Option (List ℕ)) (reading r
 
   -- a reopening failed
   pub ends_failed : (status : ℕ) (after : EarlierData) (told : Option EntryData) (now : VolumeData)
-      → AsksReopening entry.told.files s.halts l0 l2 t0 t2 reading' Now
+      → AsksReopening entry.told.files Passed l0 l2 t0 t2 reading' Now
       → FailsToReopen engine before after status told now → HasRunOver entry l0 l2 t0 t2 status after told now
   ends_failed status after told now asks fails =
       fails_over entry l0 l2 t0 t2 reading' Now status before after engine told now s.halts s.begun s.between since
       behind asks refl fails
 
   -- the next opening is there
-  module _ (after : EarlierData) (new : EngineData) (volume : VolumeData) (next : List SessionData) (t3 : Option (List ℕ))
+  module _ (after : EarlierData) (new : EngineData) (volume : VolumeData) (next : List SessionData)
+      (t3 : Option (List ℕ))
       (one : TellsOne entry.told) (c : ComesToNext engine before after new volume)
-      (asks : AsksReopening entry.told.files s.halts l0 l2 t0 t2 reading' Now)
+      (asks : AsksReopening entry.told.files Passed l0 l2 t0 t2 reading' Now)
       (none_open : next ≡ replicate MAX_SESSIONS closed) where
     pub next_stands : SaysDone t2 t3 None → StandsAt entry l0 l2 t0 t3 reading'
         (record { store = store_behind after new.state new.causes; sessions = next }) after new

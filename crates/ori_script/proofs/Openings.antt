@@ -1,13 +1,13 @@
 -- A run from one opening to the next, and to its end.
-use Rattle.std.specs.Prelude.{Any, unwrap_or}
-use Rattle.std.proofs.Common.{◌≡◌, ◌⊎◌, ℕ, zero, suc, ◌+◌, ◌<◌, ◌≤◌, Bool, true, false, List, [], ◌∷◌, ◌++◌, length, Option}
+use Rattle.std.specs.Prelude.{unwrap_or, IsSomeAnd}
+use Rattle.std.proofs.Common.{◌≡◌, ◌⊎◌, ℕ, zero, suc, ◌+◌, ◌<◌, ◌≤◌, Bool, true, false, List, [], ◌∷◌, ◌++◌, length}
+use Rattle.std.proofs.Common.{Option}
 use Rattle.std.proofs.Common.{Some, None}
 use Rattle.std.proofs.Common.{IfSome, IsSome, refl, sym, ap, ap₂, ◌∙◌, subst, inl, inr, arith, length-append, IsTrue}
-use Rattle.std.proofs.lemmas.List.Quantifiers.{Any-push}
 use Rattle.ori_volume.specs.Causes.{Rose}
 use Rattle.ori_volume.specs.Disk.{Files, files_of, IsImage}
 use Rattle.ori_volume.specs.Story.{Story, Tells}
-use Rattle.ori_volume.proofs.Known.{tells_map, tells_both, some_told}
+use Rattle.ori_volume.proofs.Known.{some_told}
 use Rattle.ori_spec_data.specs.Base.{BaseData, EntryData}
 use Rattle.ori_spec_data.specs.Apply.{apply, replay}
 use Rattle.ori_spec_crash.proofs.Marks.{replay-append}
@@ -19,20 +19,21 @@ use Rattle.ori_log.specs.Files.{files_data}
 use Rattle.ori_rows.specs.Stage.{IsDatabase, OpensTo}
 use Rattle.ori_model.specs.Standing.{PastData}
 use Rattle.ori_engine.specs.Doubts.{DoubtData, entry_in_doubt}
-use Rattle.ori_engine.specs.Openings.{IsHaltedSince, IsOpenedSince, IsCounted, Survives, LeavesBase}
+use Rattle.ori_engine.specs.CacheRows.{OpenedTo}
+use Rattle.ori_engine.specs.Openings.{IsHaltedSince, IsOpenedSince, IsCounted, Survives, LeavesBase, troubles_of}
 use Rattle.ori_engine.specs.Reopening as engines
-use Rattle.ori_engine.specs.Reopening.{LeavesAll, LeavesNow, ReopensSince}
+use Rattle.ori_engine.specs.Reopening.{LeavesAll, LeavesNow}
 use Rattle.ori_script.specs.Pasts.{EarlierData, nothing_earlier, with_feed}
 use Rattle.ori_spec_texts.specs.Line.{LineData}
 use Rattle.ori_spec_texts.specs.Reply.{AnswerData}
 use Rattle.ori_script.specs.Keeping.{StoreData, KeptData, store_behind, reopenings}
 use Rattle.ori_text.specs.Lines.{Reading}
-use Rattle.ori_script.specs.Script.{LeftData, left_of, IsRun, HadFailed, AsksReopening, HasEnded}
+use Rattle.ori_script.specs.Script.{LeftData, left_of, IsRun, PassedData, passed_by, HadFailed, AsksReopening, HasEnded}
 use Rattle.ori_script.specs.Top.{CountsData, HaltBetween, Crashes}
 use Rattle.ori_script.specs.Reports.{report_on}
 use Rattle.ori_script.specs.Openings.{IsClosedBy, HasClosed, GoesBehind, LeadsOver, StandsBehind, StaysDatabase}
 use Rattle.ori_script.specs.Openings.{VolumeData, EngineData, FailsToReopen, counts_of, HasRunOver}
-use Rattle.ori_script.proofs.Ends.{any_longer, IsLate, late_failed}
+use Rattle.ori_script.proofs.Ends.{IsLate, late_failed}
 use Rattle.ori_script.proofs.Reopened.{closed_at}
 
 -- ---- counts
@@ -66,31 +67,12 @@ halted_rose : (halted : Option ℕ) (f0 f1 l0 l1 : ℕ) → IsHaltedSince f0 f1 
 halted_rose None f0 f1 l0 l1 since some = absurd (cc some)
 halted_rose (Some at) f0 f1 l0 l1 since some = omega (arith, since.0, since.1)
 
--- where commits ended in one of them, faults rose
-pub any_rose : (halts : List (Option ℕ)) (old new : CountsData) → HaltBetween halts old new
-    → Any (λ h. IsSome h) halts → Rose old.faults new.faults
-any_rose [] old new between found = absurd (omega (arith, found.2))
-any_rose (h ∷ halts) old new (c, a, b, s, rest) (zero, x, within, is, has) =
-    let here : Rose old.faults c.faults =
-    halted_rose h old.faults c.faults old.log_faults c.log_faults s (subst (λ (o : Option ℕ). IsSome o) (sym is) has) in
-    let later = halts_later halts c new rest in
-    omega (arith, here, later)
-any_rose (h ∷ halts) old new (c, a, b, s, rest) (suc k, x, within, is, has) =
-    let there : Rose c.faults new.faults = any_rose halts c new rest (k, x, omega arith, is, has) in
-    omega (arith, a, there)
-
 -- commits have ended since the opening's begin, where they have since its end
 since_begin : (halted : Option ℕ) (f0 f1 f2 l0 l1 l2 : ℕ) → f0 ≤ f1 → l1 ≡ l0 → IsHaltedSince f1 f2 l1 l2 halted
     → IsHaltedSince f0 f2 l0 l2 halted
 since_begin None f0 f1 f2 l0 l1 l2 early same since = since ∙ same
 since_begin (Some at) f0 f1 f2 l0 l1 l2 early same since =
     (omega (arith, early, since.0), since.1, omega (arith, same, since.2))
-
-pub has_ended : (halted : Option ℕ) (faults : ℕ) → (halted ≡ None → faults ≡ 0) → IsSome halted ⊎ (0 < faults)
-    → IsSome halted
-has_ended halted faults none (inl over) = over
-has_ended (Some at) faults none (inr some) = refl
-has_ended None faults none (inr some) = let zero = none refl in absurd (omega (arith, zero, some))
 
 -- an opening has ended at these counts
 module _ (halts : List (Option ℕ)) (entry begun : CountsData) (state : StateData) (causes : Causes) (end : CountsData)
@@ -106,13 +88,25 @@ module _ (halts : List (Option ℕ)) (entry begun : CountsData) (state : StateDa
       (since_begin state.halted begun.faults state.opening.faults end.faults begun.log_faults state.opening.log_faults
       end.log_faults opened.faults opened.log_faults counts.halted)
 
-  pub failed_ends : (e : EarlierData) → HadFailed halts (store_behind e state causes) → Any (λ h. IsSome h) All
-  failed_ends e (inl earlier) = any_longer (λ h. IsSome h) halts (state.halted ∷ []) earlier
-  failed_ends e (inr now) =
-      Any-push (λ h. IsSome h) halts state.halted (has_ended state.halted causes.fault counts.faultless now)
+  -- a fault of an opening has its cause in the counts
+  had_rose : (halted : Option ℕ) → IsHaltedSince begun.faults end.faults begun.log_faults end.log_faults halted
+      → IsSome halted ⊎ (0 < troubles_of causes) → Rose begun.faults end.faults
+  had_rose halted since (inl over) =
+      halted_rose halted begun.faults end.faults begun.log_faults end.log_faults since over
+  had_rose halted since (inr some) = omega (arith, some, counts.troubled, opened.faults)
 
-  pub failed_rose : (e : EarlierData) → HadFailed halts (store_behind e state causes) → Rose entry.faults end.faults
-  failed_rose e had = any_rose All entry end halts_all (failed_ends e had)
+  ended_since : IsHaltedSince begun.faults end.faults begun.log_faults end.log_faults state.halted
+  ended_since =
+      since_begin state.halted begun.faults state.opening.faults end.faults begun.log_faults state.opening.log_faults
+      end.log_faults opened.faults opened.log_faults counts.halted
+
+  pub failed_rose : (e : EarlierData) → HadFailed (passed_by halts entry.faults begun.faults)
+      (store_behind e state causes)
+      → Rose entry.faults end.faults
+  failed_rose e (inl earlier) = omega (arith, earlier, opened.faults, counts.later)
+  failed_rose e (inr now) =
+      let here : Rose begun.faults end.faults = had_rose state.halted ended_since now in
+      omega (arith, halts_later halts entry begun between, here)
 
 -- ---- crashes
 
@@ -123,6 +117,15 @@ told_of {T} R first new s is told = subst (λ (o : Option T). Tells R o new) is 
 pub some_same : {T : Type 0} {x y : T} {o : Option T} → o ≡ Some x → o ≡ Some y → x ≡ y
 some_same a b = cc (a, b)
 
+told_and : {T : Type 0} (o : Option T) (P : T → Type 0) → IsSomeAnd o P → (x : T) × (o ≡ Some x) × P x
+told_and None P h = absurd h
+told_and (Some x) P h = (x, refl, h)
+
+-- a crash leaves what a report of this tells, over a base
+abbrev Crashed : EarlierData → Option EntryData → BaseData → Story → Option Story → Type 0
+Crashed e doubt base first now = IsSomeAnd now (λ new. CrashSafe OpensTo base e.entries
+    (e.failed ++ doubts e.entries doubt) e.marks first new)
+
 -- What a crash leaves at an opening's end, since the run's entry; and the state's base is that behind all entries.
 pub record ClosesOn (state : StateData) (before : EarlierData) (feed : List EntryData) (marks : List ℕ)
     (doubt : Option DoubtData) (base : BaseData) (first now : Story) : Type 0 where
@@ -130,54 +133,64 @@ pub record ClosesOn (state : StateData) (before : EarlierData) (feed : List Entr
       (before.marks ++ marks) first now
   pub base_is : state.base ≡ Some (replay base (before.entries ++ feed))
 
-abbrev pub Closes : StateData → EarlierData → List EntryData → List ℕ → Option DoubtData → Story → Story → Type 0
-Closes state before feed marks doubt first now = (base : BaseData) → OpensTo (files_of first.now.disk) base
-    → ClosesOn state before feed marks doubt base first now
-
 module _ (holds : PastData → Type 0) (before after : EarlierData) (entry : PastData) (state : StateData)
     (doubt : Option DoubtData) (files : Option Files) (story : Option Story) (b : StandsBehind holds before entry)
     (c : IsClosedBy state holds before after doubt files story) where
-  abbrev Over : Story → Story → Type 0
-  Over = Closes state before c.feed c.marks doubt
-
-  pub closes_some : (s0 : Story) → LeadsOver before (Some s0) b.begun.story b.ended.story
-      → (x : Story) × (story ≡ Some x) × Over s0 x
-  closes_some s0 (s1, is1, s2, is2, leads) =
+  pub closes_some : (s0 : Story) (base : BaseData) → OpensTo (files_of s0.now.disk) base
+      → LeadsOver before (Some s0) b.begun.story b.ended.story
+      → (x : Story) × (story ≡ Some x) × ClosesOn state before c.feed c.marks doubt base s0 x
+  closes_some s0 base opens leads =
+      let led = leads base opens in
+      let s1 = led.0 in
+      let is1 = led.1 in
+      let s2 = led.2 in
+      let is2 = led.3 in
+      let g = led.4 in
       let d = entry_in_doubt doubt in
-      let since = told_of (Survives c.feed d c.marks) b.begun.story story s1 is1 (c.crash b.begun b.since) in
-      let late = told_of (Survives c.feed d c.marks) b.ended.story story s2 is2 (c.crash b.ended b.since_end) in
-      let now = told_of (LeavesAll state c.feed) b.begun.story story s1 is1 (c.whole b.begun b.since) in
+      let first : OpenedTo g.mid b.begun =
+      inl (subst (λ (o : Option Story). IsSomeAnd o (λ s. OpensTo (files_of s.now.disk) g.mid)) (sym is1) g.opens) in
+      let last : OpenedTo g.mid b.ended =
+      inl (subst (λ (o : Option Story). IsSomeAnd o (λ s. OpensTo (files_of s.now.disk) g.mid)) (sym is2)
+      g.opens_at) in
+      let since = told_of (Survives c.feed d c.marks) b.begun.story story s1 is1
+      (c.crash b.begun g.mid b.since first) in
+      let late = told_of (Survives c.feed d c.marks) b.ended.story story s2 is2
+      (c.crash b.ended g.mid b.since_end last) in
+      let now = told_of (LeavesAll state c.feed) b.begun.story story s1 is1 (c.whole b.begun g.mid b.since first) in
       let same_late : late.0 ≡ since.0 = some_same late.1 since.1 in
-      let same_now : now.0 ≡ since.0 = some_same now.1 since.1 in (
+      let same_now : now.0 ≡ since.0 = some_same now.1 since.1 in
+      let leaves = subst (λ (s : Story). LeavesNow state g.mid c.feed s) same_now (now.2 g.mid g.opens) in (
         since.0,
         since.1,
-        λ base opens. (let g = leads base opens in
-            let leaves = subst (λ (s : Story). LeavesNow state g.mid c.feed s) same_now (now.2 g.mid g.opens) in
-            record {
-              closed = closed_at before base s0 s1 s2 since.0 g c.feed c.marks d state since.2
-                  (subst (λ (s : Story). Survives c.feed d c.marks s2 s) same_late late.2) leaves c.doubt_is;
-              base_is = leaves.base_is
-                  ∙ ap (λ (x : BaseData). Some (replay x c.feed)) g.base_is
-                  ∙ ap (λ (x : BaseData). Some x) (sym (replay-append base before.entries c.feed));
-            }),
+        record {
+          closed = closed_at before base s0 s1 s2 since.0 g c.feed c.marks d state since.2
+              (subst (λ (s : Story). Survives c.feed d c.marks s2 s) same_late late.2) leaves c.doubt_is;
+          base_is = leaves.base_is
+              ∙ ap (λ (x : BaseData). Some (replay x c.feed)) g.base_is
+              ∙ ap (λ (x : BaseData). Some x) (sym (replay-append base before.entries c.feed));
+        },
       )
 
-  closes_by : (first : Option Story) → LeadsOver before first b.begun.story b.ended.story → Tells Over first story
-  closes_by None leads =
-      subst (λ (o : Option Story). Tells (Survives c.feed (entry_in_doubt doubt) c.marks) o story) leads.0
-      (c.crash b.begun b.since)
-  closes_by (Some s0) leads = closes_some s0 leads
+  -- the files that the opening left open again
+  pub again : (base : BaseData) → state.base ≡ Some base → (first : Files) (found : BaseData) → entry.files ≡ Some first
+      → OpensTo first found → (x : Files) × (files ≡ Some x) × engines.Reopens base doubt x
+  again base base_is first found is opens =
+      let r = b.reads first found is opens in
+      let here : OpenedTo r.1 b.begun =
+      inr (subst (λ (o : Option Files). IsSomeAnd o (λ fs. OpensTo fs r.1)) (sym r.2) r.3) in
+      told_and files (engines.Reopens base doubt)
+      (some_told (λ (x : BaseData). IsSomeAnd files (engines.Reopens x doubt)) state.base base base_is
+      (c.reads b.begun b.since r.1 here))
 
-  pub closes : Tells Over entry.story story
-  closes = closes_by entry.story b.leads
-
--- so a report of it tells what a crash leaves
-crashes_so : (state : StateData) (before after : EarlierData) (feed : List EntryData) (marks : List ℕ)
-    (doubt : Option DoubtData) (first now : Story) → after ≡ with_feed before feed marks
-    → Closes state before feed marks doubt first now → Crashes (report_on after false (entry_in_doubt doubt)) first now
-crashes_so state before after feed marks doubt first now joined closes =
-    subst (λ (e : EarlierData). Crashes (report_on e false (entry_in_doubt doubt)) first now) (sym joined)
-    (λ base opens. (closes base opens).closed.crash)
+  pub crashes_by : (first : Option Story) → LeadsOver before first b.begun.story b.ended.story
+      → Crashes (report_on after false (entry_in_doubt doubt)) first story
+  crashes_by None leads = λ base. tt
+  crashes_by (Some s0) leads = λ base opens.
+      (let x = closes_some s0 base opens leads in
+      subst (λ (e : EarlierData). Crashed e (entry_in_doubt doubt) base s0 story) (sym c.joined)
+      (subst (λ (o : Option Story). Crashed (with_feed before c.feed c.marks) (entry_in_doubt doubt) base s0 o)
+      (sym x.1)
+      x.2.closed.crash))
 
 -- ---- the end of a run
 
@@ -220,7 +233,8 @@ module _ (entry : VolumeData) (l0 l1 t0 t1 : Option (List ℕ)) (status : ℕ) (
     (between : HaltBetween halts (counts_of entry) begun)
     (opened : IsOpenedSince begun.faults begun.log_faults engine.state.opening)
     (b : StandsBehind engine.holds before entry.told) (closed : HasClosed engine before after doubt now)
-    (ended : HasEnded entry.told.files halts l0 l1 t0 t1 status (store_behind before engine.state engine.causes)) where
+    (ended : HasEnded entry.told.files (passed_by halts entry.faults begun.faults) l0 l1 t0 t1 status
+    (store_behind before engine.state engine.causes)) where
   pub over : (status ≡ 5 → ⊥) → (status ≡ 6 → ⊥)
       → HasRunOver entry l0 l1 t0 t1 status after (entry_in_doubt doubt) now
   over no_fault no_form =
@@ -249,14 +263,9 @@ module _ (entry : VolumeData) (l0 l1 t0 t1 : Option (List ℕ)) (status : ℕ) (
         );
         fault_told = λ told. failed_rose halts (counts_of entry) begun engine.state engine.causes end between opened
             closed.counts before (ended.told.fault_told told);
-        fault_ends = λ told. failed_ends halts (counts_of entry) begun engine.state engine.causes end between opened
-            closed.counts before (ended.told.fault_told told);
         halted_told = ended.told.halted_told;
-        crash = tells_map (Closes engine.state before c.feed c.marks doubt)
-            (Crashes (report_on after false (entry_in_doubt doubt))) entry.told.story now.told.story
-            (λ first last told closes.
-            crashes_so engine.state before after c.feed c.marks doubt first last c.joined closes)
-            (closes engine.holds before after entry.told engine.state doubt now.told.files now.told.story b c);
+        crash = crashes_by engine.holds before after entry.told engine.state doubt now.told.files now.told.story b c
+            entry.told.story b.leads;
         volume_fault = λ five. absurd (no_fault five);
         not_a_database = λ six. absurd (no_form six);
         never_lost = λ six. absurd (no_form six);
@@ -273,11 +282,11 @@ database_of files base opens =
     ]
 
 -- what files open to again is a base
-pub opens_one : (base : BaseData) (limit : Option ℕ) (doubt : Option DoubtData) (files : Files)
-    → engines.Reopens base limit doubt files → (mid : BaseData) × OpensTo files mid
-opens_one base limit None files h = (base, h.opens)
-opens_one base limit (Some d) files (inl h) = (base, h.1.opens)
-opens_one base limit (Some d) files (inr h) = (apply base d.entry, h.1.opens)
+pub opens_one : (base : BaseData) (doubt : Option DoubtData) (files : Files) → engines.Reopens base doubt files
+    → (mid : BaseData) × OpensTo files mid
+opens_one base None files h = (base, h)
+opens_one base (Some d) files (inl h) = (base, h.1)
+opens_one base (Some d) files (inr h) = (apply base d.entry, h.1)
 
 unopened : (base : BaseData) (history : List EntryData) (failed : List (ℕ × EntryData)) (doubt : Option EntryData)
     (marks : List ℕ) (first mid last : Story) → IsClosed OpensTo base history failed doubt marks first mid
@@ -297,42 +306,44 @@ module _ (entry : VolumeData) (l0 l1 t0 t1 : Option (List ℕ)) (reading : Readi
     (between : HaltBetween halts (counts_of entry) begun)
     (opened : IsOpenedSince begun.faults begun.log_faults engine.state.opening)
     (b : StandsBehind engine.holds before entry.told)
-    (asks : AsksReopening entry.told.files halts l0 l1 t0 t1 reading kept)
+    (asks : AsksReopening entry.told.files (passed_by halts entry.faults begun.faults) l0 l1 t0 t1 reading kept)
     (stored : kept.store ≡ store_behind before engine.state engine.causes)
     (fails : FailsToReopen engine before after status doubt now) where
-  ended_late : IsLate entry.told.files halts l0 l1 t0 t1 status (store_behind before engine.state engine.causes)
+  abbrev Passed : PassedData
+  Passed = passed_by halts entry.faults begun.faults
+
+  ended_late : IsLate entry.told.files Passed l0 l1 t0 t1 status (store_behind before engine.state engine.causes)
   ended_late =
-      subst (λ (s : StoreData). IsLate entry.told.files halts l0 l1 t0 t1 status s) stored
-      (late_failed entry.told.files halts l0 l1 t0 t1 reading kept status asks fails.why)
+      subst (λ (s : StoreData). IsLate entry.told.files Passed l0 l1 t0 t1 status s) stored
+      (late_failed entry.told.files Passed l0 l1 t0 t1 reading kept status asks fails.why)
 
   -- nothing has changed behind the opening's end
-  fails_crash : Tells (Crashes (report_on after false doubt)) entry.told.story now.told.story
-  fails_crash =
-      let c = fails.closed.closed in
-      tells_both (Closes engine.state before c.feed c.marks fails.left) LeavesBase
-      (Crashes (report_on after false doubt)) entry.told.story fails.mid.told.story now.told.story
-      (λ first mid last was is closes leaves. subst
-      (λ (d : Option EntryData). Crashes (report_on after false d) first last) (sym fails.doubt_is)
-      (subst (λ (e : EarlierData). Crashes (report_on e false (entry_in_doubt fails.left)) first last) (sym c.joined)
-      (λ base opens. unopened base (before.entries ++ c.feed) before.failed (entry_in_doubt fails.left)
-      (before.marks ++ c.marks) first mid last (closes base opens).closed
-      (some_told (λ (s : Story). IsImage s.now.disk (files_of s.now.disk)) fails.mid.told.story mid is fails.read)
-      leaves)))
-      (closes engine.holds before after entry.told engine.state fails.left fails.mid.told.files fails.mid.told.story b
-      c)
-      fails.crash
+  fails_by : (first : Option Story) → LeadsOver before first b.begun.story b.ended.story
+      → Crashes (report_on after false doubt) first now.told.story
+  fails_by None leads = λ base. tt
+  fails_by (Some s0) leads = λ base opens.
+      (let c = fails.closed.closed in
+      let x = closes_some engine.holds before after entry.told engine.state fails.left fails.mid.told.files
+      fails.mid.told.story b c s0 base opens leads in
+      let y = told_of LeavesBase fails.mid.told.story now.told.story x.0 x.1 fails.crash in
+      let read = some_told (λ (s : Story). IsImage s.now.disk (files_of s.now.disk)) fails.mid.told.story x.0 x.1
+      fails.read in
+      subst (λ (d : Option EntryData). Crashed after d base s0 now.told.story) (sym fails.doubt_is)
+      (subst (λ (e : EarlierData). Crashed e (entry_in_doubt fails.left) base s0 now.told.story) (sym c.joined)
+      (subst (λ (o : Option Story). Crashed (with_feed before c.feed c.marks) (entry_in_doubt fails.left) base s0 o)
+      (sym y.1)
+      (unopened base (before.entries ++ c.feed) before.failed (entry_in_doubt fails.left) (before.marks ++ c.marks) s0
+      x.0
+      y.0 x.2.closed read y.2))))
 
   -- the files that the opening left are those of a database, where those at entry were
   still_database : (files : Files) (base : BaseData) → entry.told.files ≡ Some files → OpensTo files base
       → (x : Files) × (fails.mid.told.files ≡ Some x) × IsDatabase (files_data x)
   still_database files base is opens =
       let c = fails.closed.closed in
-      let r = b.reads files base is opens in
-      let t = told_of (ReopensSince engine.state fails.left) b.begun.files fails.mid.told.files r.0 r.2
-      (c.reads b.begun b.since) in
-      let o = opens_one c.base engine.state.limit fails.left t.0
-      (some_told (λ (x : BaseData). engines.Reopens x engine.state.limit fails.left t.0) engine.state.base c.base
-      c.base_is (t.2 r.1 r.3)) in (t.0, t.1, database_of t.0 o.0 o.1)
+      let t = again engine.holds before after entry.told engine.state fails.left fails.mid.told.files
+      fails.mid.told.story b c c.base c.base_is files base is opens in
+      let o = opens_one c.base fails.left t.0 t.2 in (t.0, t.1, database_of t.0 o.0 o.1)
 
   never_lost : (told : Option Files) → entry.told.files ≡ told → status ≡ 6
       → IfSome told (λ fs. (base : BaseData) → OpensTo fs base → ⊥)
@@ -382,10 +393,8 @@ module _ (entry : VolumeData) (l0 l1 t0 t1 : Option (List ℕ)) (reading : Readi
         fault_told = λ told. (let rose : Rose entry.faults fails.mid.faults =
             failed_rose halts (counts_of entry) begun engine.state engine.causes end between opened
             fails.closed.counts before (ended.told.fault_told told) in omega (arith, rose, fails.later));
-        fault_ends = λ told. failed_ends halts (counts_of entry) begun engine.state engine.causes end between opened
-            fails.closed.counts before (ended.told.fault_told told);
         halted_told = ended.told.halted_told;
-        crash = fails_crash;
+        crash = fails_by entry.told.story b.leads;
         volume_fault = λ five. (let all = halts_later (halts ++ engine.state.halted ∷ []) (counts_of entry) end
             (halts_all halts (counts_of entry) begun engine.state engine.causes end between opened
             fails.closed.counts) in

@@ -1,12 +1,12 @@
 -- What a script over a volume comes to.
 use Rattle.std.proofs.Common.{◌≡◌, ◌⊎◌, ◌↔◌, ℕ, ◌≤◌, Bool, List, [], ◌∷◌, ◌++◌, Option, Some, None, IfSome, IsSome}
 use Rattle.std.proofs.Common.{◌<◌, refl, sym, ap, ap₂, ◌∙◌, subst, inl, inr, IsTrue, arith}
-use Rattle.std.specs.Prelude.{unwrap_or}
+use Rattle.std.specs.Prelude.{IsSomeAnd}
 use Rattle.ori_bytes.specs.declared.causes.Causes.{Causes}
 use Rattle.ori_volume.specs.Causes.{Rose}
 use Rattle.ori_volume.specs.Disk.{Files}
 use Rattle.ori_volume.specs.Story.{Story, Tells}
-use Rattle.ori_volume.proofs.Known.{tells_refl, some_always}
+use Rattle.ori_volume.proofs.Known.{some_always}
 use Rattle.ori_volume.specs.Streams.{Took}
 use Rattle.ori_spec_data.specs.Base.{BaseData, initial_base, EntryData}
 use Rattle.ori_spec_data.specs.Keeping.{StateData, OpeningData}
@@ -18,7 +18,8 @@ use Rattle.ori_spec_crash.specs.Crash.{CrashSafe, doubts}
 use Rattle.ori_rows.specs.Stage.{IsDatabase, OpensTo}
 use Rattle.ori_log.specs.Files.{files_data}
 use Rattle.ori_text.specs.LineReading.{IsAtEnd}
-use Rattle.ori_engine.specs.Openings.{IsFound, Finds, LeavesBase}
+use Rattle.ori_engine.specs.Openings.{LeavesBase}
+use Rattle.ori_script.specs.Founds.{IsFound, Finds}
 use Rattle.ori_engine.proofs.Safety.{crash_still}
 use Rattle.ori_script.specs.Pasts.{EarlierData}
 use Rattle.ori_script.specs.Script.{Ends, LeftData, IsRun}
@@ -39,17 +40,25 @@ database_of files found finds =
 -- ---- crashes
 
 -- no moment has passed
-pub still_crashes : (report : ReportData) (told : Option Story) → report ≡ empty_report
-    → Tells (Crashes report) told told
+none_told : (told : Option Story) → Crashes empty_report told told
+none_told None = λ base. tt
+none_told (Some story) = λ base opens. crash_still base story
+
+pub still_crashes : (report : ReportData) (told : Option Story) → report ≡ empty_report → Crashes report told told
 still_crashes report told nothing =
-    tells_refl (Crashes report) told
-    (λ story. subst (λ (r : ReportData). Crashes r story story) (sym nothing) (λ base opens. crash_still base story))
+    subst (λ (r : ReportData). Crashes r told told) (sym nothing) (none_told told)
 
 -- an opening has failed
+left_told : (old new : Option Story) → Tells LeavesBase old new → Crashes empty_report old new
+left_told None new told = λ base. tt
+left_told (Some s) new told = λ base opens.
+    subst (λ (o : Option Story). IsSomeAnd o (λ now. CrashSafe OpensTo base [] [] [] s now)) (sym told.1)
+    (told.2 base opens)
+
 pub left_crashes : (report : ReportData) (old new : Option Story) → report ≡ empty_report → Tells LeavesBase old new
-    → Tells (Crashes report) old new
+    → Crashes report old new
 left_crashes report old new nothing told =
-    subst (λ (r : ReportData). Tells (Crashes r) old new) (sym nothing) told
+    subst (λ (r : ReportData). Crashes r old new) (sym nothing) (left_told old new told)
 
 -- ---- counts
 
@@ -227,7 +236,6 @@ module _ (old new : OutsideData) (status : ℕ) (report : ReportData) where
       one_each = r.one_each;
       few_decided = r.few_decided;
       fault_told = r.fault_told;
-      fault_ends = r.fault_ends;
       halted_told = r.halted_told;
       emptiness = empty;
     }

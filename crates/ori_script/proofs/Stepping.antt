@@ -1,10 +1,8 @@
 -- A reopening as a step of the run.
-use Rattle.std.specs.Prelude.{Any}
 use Rattle.std.proofs.Common.{◌≡◌, ◌⊎◌, ℕ, ◌+◌, ◌≤◌, Bool, true, false, List, [], ◌∷◌, ◌++◌, length, Option, Some, None}
 use Rattle.std.proofs.Common.{IfSome, IsSome, refl, sym, ap, ◌∙◌, subst, inl, inr, arith, length-append, replicate}
 use Rattle.std.specs.Prelude.{◌==◌}
 use Rattle.std.proofs.lemmas.List.{append-nil}
-use Rattle.std.proofs.lemmas.List.Quantifiers.{Any-push}
 use Rattle.std.proofs.lemmas.Bool.Decides.{nat_tests}
 use Rattle.ori_bytes.specs.declared.limits.TheConstants.{MAX_SESSIONS}
 use Rattle.ori_volume.specs.Disk.{Files}
@@ -21,16 +19,18 @@ use Rattle.ori_rows.specs.Stage.{OpensTo}
 use Rattle.ori_log.specs.Files.{files_data}
 use Rattle.ori_log.proofs.OneTail.{one_tail}
 use Rattle.ori_engine.specs.Doubts.{DoubtData, entry_in_doubt}
-use Rattle.ori_engine.specs.Openings.{Finds, IsFound, IsStarted}
+use Rattle.ori_engine.specs.Openings.{IsStarted, IsOpenedSince}
+use Rattle.ori_script.specs.Founds.{Finds, IsFound}
 use Rattle.ori_engine.specs.Reopening as engines
-use Rattle.ori_engine.specs.Reopening.{HasTailOf, ReopensSince}
+use Rattle.ori_engine.specs.Reopening.{HasTailOf}
 use Rattle.ori_script.specs.Pasts.{EarlierData, with_feed, with_found, decided}
 use Rattle.ori_script.specs.Keeping.{KeptData, Keeps, store_behind, HasFailed}
-use Rattle.ori_script.specs.Script.{HadFailed}
+use Rattle.ori_script.specs.Script.{passed_by}
+use Rattle.ori_script.specs.Top.{CountsData, HaltBetween}
 use Rattle.ori_script.specs.Openings.{VolumeData, EngineData, IsClosedBy, StandsBehind, ComesToNext, decided_by}
-use Rattle.ori_script.specs.Openings.{is_found}
+use Rattle.ori_script.specs.Openings.{is_found, counts_of}
 use Rattle.ori_script.proofs.Ends.{IsStep, any_longer}
-use Rattle.ori_script.proofs.Openings.{told_of, has_ended}
+use Rattle.ori_script.proofs.Openings.{again, failed_rose}
 use Rattle.ori_script.proofs.Reopened.{reopens_same, reopens_joined}
 
 -- ---- the tail
@@ -78,6 +78,9 @@ module _ (old : EngineData) (before after : EarlierData) (new : EngineData) (vol
     started found is =
         c.begins.started found (subst (λ (o : Option Files). Finds o found) (sym told) is)
 
+    no_limit : run.limit ≡ None
+    no_limit = sym k.limit ∙ by.limit_is
+
     abbrev Goes : Type 0
     Goes = (n : RunData) × Reopens run run.doubt n × Keeps Is n
 
@@ -97,21 +100,21 @@ module _ (old : EngineData) (before after : EarlierData) (new : EngineData) (vol
         ap (λ (h : List EntryData). c.between.failed ++ (length h, d.entry) ∷ []) whole
         ∙ doubtful_so run (Some d.entry) c.between.failed some (failed_are ∙ k.failed)
 
-    goes : (doubt : Option DoubtData) → c.left ≡ doubt → engines.Reopens run.base run.limit doubt files → Goes
+    goes : (doubt : Option DoubtData) → c.left ≡ doubt → engines.Reopens run.base doubt files → Goes
     goes None is opens =
-        let s = started (record { base = run.base; limit = run.limit }) opens in
+        let s = started (record { base = run.base; limit = None }) (record { opens = opens; limit_is = refl }) in
         let same : after ≡ c.between =
         c.decided_is ∙ ap (λ (d : Option DoubtData). decided_by c.between d c.tail new.state.opening.moment) is in
         let none : run.doubt ≡ None = run_doubt ∙ ap entry_in_doubt is in (
           reopened run,
           subst (λ (d : Option EntryData). Reopens run d (reopened run)) (sym none) refl,
-          reopens_same Was Is run k run.base run.limit c.begins.fresh s.sound s.base_is s.limit_is opened by.feed
-              by.feed_is refl refl (ap (λ (e : EarlierData). e.entries) same ∙ entries_are)
+          reopens_same Was Is run k run.base None c.begins.fresh s.sound s.base_is s.limit_is opened by.feed
+              by.feed_is refl (sym no_limit) (ap (λ (e : EarlierData). e.entries) same ∙ entries_are)
               (ap (λ (e : EarlierData). e.failed) same ∙ failed_are ∙ sym (append-nil before.failed)
               ∙ doubtful_so run None before.failed none k.failed),
         )
     goes (Some d) is (inl ((n, more, tail), opens)) =
-        let s = started (record { base = run.base; limit = run.limit }) opens in
+        let s = started (record { base = run.base; limit = None }) (record { opens = opens; limit_is = refl }) in
         let lost : is_found d c.tail ≡ false = not_there c.tail d.tail n more
         (tail_same files n c.tail tail tail_here) in
         let same : after ≡ decided c.between d.entry false new.state.opening.moment =
@@ -120,15 +123,15 @@ module _ (old : EngineData) (before after : EarlierData) (new : EngineData) (vol
         let some : run.doubt ≡ Some d.entry = run_doubt ∙ ap entry_in_doubt is in (
           reopened run,
           subst (λ (x : Option EntryData). Reopens run x (reopened run)) (sym some) (inl refl),
-          reopens_same Was Is run k run.base run.limit c.begins.fresh s.sound s.base_is s.limit_is opened by.feed
-              by.feed_is refl refl (ap (λ (e : EarlierData). e.entries) same ∙ entries_are)
+          reopens_same Was Is run k run.base None c.begins.fresh s.sound s.base_is s.limit_is opened by.feed
+              by.feed_is refl (sym no_limit) (ap (λ (e : EarlierData). e.entries) same ∙ entries_are)
               (ap (λ (e : EarlierData). e.failed) same ∙ tried d some),
         )
     goes (Some d) is (inr (tail, opens)) =
-        let s = started (record {
-          base = apply run.base d.entry;
-          limit = limit_after run.base (asked_in d.entry) run.limit;
-        }) opens in
+        let s = started (record { base = apply run.base d.entry; limit = None })
+        (record { opens = opens; limit_is = refl }) in
+        let limited : None ≡ limit_after run.base (asked_in d.entry) run.limit =
+        ap (λ (l : Option ℕ). limit_after run.base (asked_in d.entry) l) (sym no_limit) in
         let found : is_found d c.tail ≡ true = is_there c.tail d.tail (tail_same files d.tail c.tail tail tail_here) in
         let same : after ≡ decided c.between d.entry true new.state.opening.moment =
         c.decided_is ∙ ap (λ (x : Option DoubtData). decided_by c.between x c.tail new.state.opening.moment) is
@@ -136,16 +139,18 @@ module _ (old : EngineData) (before after : EarlierData) (new : EngineData) (vol
         let some : run.doubt ≡ Some d.entry = run_doubt ∙ ap entry_in_doubt is in (
           joined (reopened run) d.entry,
           subst (λ (x : Option EntryData). Reopens run x (joined (reopened run) d.entry)) (sym some) (inr refl),
-          reopens_joined Was Is run k (apply run.base d.entry) (limit_after run.base (asked_in d.entry) run.limit)
-              c.begins.fresh s.sound s.base_is s.limit_is opened by.feed by.feed_is d.entry refl refl
+          reopens_joined Was Is run k (apply run.base d.entry) None
+              c.begins.fresh s.sound s.base_is s.limit_is opened by.feed by.feed_is d.entry refl limited
               (ap (λ (e : EarlierData). e.entries) same ∙ ap (λ (es : List EntryData). es ++ d.entry ∷ []) entries_are)
               (ap (λ (e : EarlierData). e.failed) same ∙ tried d some),
         )
 
 -- ---- the step
 
-module _ (entry : VolumeData) (halts : List (Option ℕ)) (old : EngineData) (before after : EarlierData)
-    (new : EngineData) (volume : VolumeData) (cur next : List SessionData)
+module _ (entry : VolumeData) (halts : List (Option ℕ)) (begun : CountsData) (old : EngineData)
+    (before after : EarlierData) (new : EngineData) (volume : VolumeData) (cur next : List SessionData)
+    (between : HaltBetween halts (counts_of entry) begun)
+    (since : IsOpenedSince begun.faults begun.log_faults old.state.opening)
     (b : StandsBehind old.holds before entry.told) (c : ComesToNext old before after new volume)
     (opened : next ≡ replicate MAX_SESSIONS closed) where
   abbrev Old : KeptData
@@ -156,18 +161,10 @@ module _ (entry : VolumeData) (halts : List (Option ℕ)) (old : EngineData) (be
 
   -- the files that the opening left open to the run's base again, or to that with the entry in doubt
   reads_again : (run : RunData) → Keeps Old run → (files : Files) (base : BaseData) → entry.told.files ≡ Some files
-      → OpensTo files base
-      → (x : Files) × (c.mid.told.files ≡ Some x) × engines.Reopens run.base run.limit c.left x
+      → OpensTo files base → (x : Files) × (c.mid.told.files ≡ Some x) × engines.Reopens run.base c.left x
   reads_again run k files base is opens =
-      let r = b.reads files base is opens in
-      let t = told_of (ReopensSince old.state c.left) b.begun.files c.mid.told.files r.0 r.2
-      (c.closed.closed.reads b.begun b.since) in (
-        t.0,
-        t.1,
-        subst (λ (l : Option ℕ). engines.Reopens run.base l c.left t.0) k.limit
-            (some_told (λ (base' : BaseData). engines.Reopens base' old.state.limit c.left t.0) old.state.base run.base
-            k.base (t.2 r.1 r.3)),
-      )
+      again old.holds before c.between entry.told old.state c.left c.mid.told.files c.mid.told.story b c.closed.closed
+      run.base k.base files base is opens
 
   steps_by : (told : Option Files) (found : FoundData) → entry.told.files ≡ told → Finds told found → (run : RunData)
       → Keeps Old run
@@ -194,15 +191,13 @@ module _ (entry : VolumeData) (halts : List (Option ℕ)) (old : EngineData) (be
         ap (λ (e : EarlierData). length e.failed) c.closed.closed.joined,
       )
 
-  pub reopen_step : IsStep entry.told.files halts (halts ++ old.state.halted ∷ []) Old (step reopen) to_done New
+  pub reopen_step : IsStep entry.told.files (passed_by halts entry.faults begun.faults)
+      (passed_by (halts ++ old.state.halted ∷ []) entry.faults c.mid.faults) Old (step reopen) to_done New
   reopen_step = record {
     steps = λ found finds run k. steps_by entry.told.files found refl finds run k;
     fault_told = λ told. absurd (cc told);
-    failed_stays = λ had. inl (elim had [
-      | inl earlier ↦ any_longer (λ h. IsSome h) halts (old.state.halted ∷ []) earlier
-      | inr now ↦ Any-push (λ h. IsSome h) halts old.state.halted
-          (has_ended old.state.halted old.causes.fault c.closed.counts.faultless now)
-    ]);
+    failed_stays = λ had. inl (failed_rose halts (counts_of entry) begun old.state old.causes (counts_of c.mid) between
+        since c.closed.counts before had);
     halted_told = λ at told. absurd told;
     halted_stays = λ at had. any_longer (λ h. h ≡ Some at) (halts ++ old.state.halted ∷ [])
         (new.state.halted ∷ []) had;

@@ -38,14 +38,14 @@ use Rattle.ori_model.specs.Replies.{reply_of}
 use Rattle.ori_session.specs.Reads.{WhereReal, IsUnbuilt, IsReadFault}
 use Rattle.ori_session.specs.Commits.{reply_by, stays, left_open, AnswersOn}
 use Rattle.ori_session.specs.Runs.{IsAnswer, Executes}
-use Rattle.ori_engine.specs.Openings.{IsKeptState}
+use Rattle.ori_engine.specs.Openings.{IsKeptState, troubles_of}
 use Rattle.ori_script.specs.declared.past.Past.{Past}
 use Rattle.ori_script.specs.Pasts.{EarlierData, HasRoom, HasPlace, doubt_count, may_leave, IsReady}
 use Rattle.ori_script.specs.Keeping.{StoreData, store_behind, KeptData, Keeps, HasFailed, IsStepped}
 use Rattle.ori_script.proofs.Causes.{full_feed, free_feed, need_is, within, asked_back, IsFree, by_halt, by_feed}
 use Rattle.ori_script.proofs.Causes.{by_refusal, by_log, by_none}
-use Rattle.ori_script.proofs.Counted.{IsInside, no_device, no_busy, no_damaged, only_memory, fault_counted}
-use Rattle.ori_script.proofs.Counted.{faults_kept, faults_read}
+use Rattle.ori_script.proofs.Counted.{IsInside, no_busy, no_damaged, read_so, read_told, fault_counted}
+use Rattle.ori_script.proofs.Counted.{device_counted, faults_kept, faults_read}
 use Rattle.ori_script.proofs.Runs.{only}
 
 -- ---- what is kept
@@ -159,17 +159,21 @@ module _ (earlier : List EntryData) (failed : List (ℕ × EntryData)) (view : O
   abbrev After : KeptData
   After = kept_as earlier failed new causes_new cur'
 
+  -- it is out of memory, or the device failed
+  abbrev IsWanting : Type 0
+  IsWanting = (reply ≡ replies.refused replies.no_memory) ⊎ (reply ≡ replies.refused replies.device)
+
   abbrev Decided : PendingData → Type 0
   Decided p = (next : RunData)
       × (runs.Decides run session p reply next
-      ⊎ ((reply ≡ replies.refused replies.no_memory) × (next ≡ run)))
+      ⊎ (IsWanting × (next ≡ run)))
       × Keeps After next
 
   front_is : old.front ≡ length run.feed
   front_is = known.front_is ∙ ap (λ (feed : List EntryData). length feed) (some_is (sym known.feed_is ∙ k.feed))
 
   -- all is as before
-  wants : (p : PendingData) → reply ≡ replies.refused replies.no_memory → new ≡ old → cur' ≡ cur → Decided p
+  wants : (p : PendingData) → IsWanting → new ≡ old → cur' ≡ cur → Decided p
   wants p told same now = (
     run,
     inr (told, refl),
@@ -294,10 +298,14 @@ module _ (earlier : List EntryData) (failed : List (ℕ × EntryData)) (view : O
         let kept = keeps_left earlier failed old causes_old causes_new cur cur' run session p k now in
         let same = breaks.same in
         let next : RunData = record (left_by run session p) { halted = new.halted; doubt = new.doubt } in
-        let doubt : ((new.doubt ≡ run.doubt) × (new.halted ≡ run.halted))
-        ⊎ ((new.doubt ≡ Some entry) × IsSome new.halted) =
+        let halted : (new.halted ≡ run.halted) ⊎ IsSome new.halted =
+        elim breaks.halted [
+          | inl still ↦ inl (still ∙ k.halted)
+          | inr over ↦ inr over
+        ] in
+        let doubt : (new.doubt ≡ run.doubt) ⊎ ((new.doubt ≡ Some entry) × IsSome new.halted) =
         elim breaks.doubt [
-          | inl still ↦ inl (still.0 ∙ k.doubt, still.1 ∙ k.halted)
+          | inl still ↦ inl (still ∙ k.doubt)
           | inr own ↦ inr (own.0 ∙ ap (λ (e : EntryData). Some e) made, own.1)
         ] in (
           next,
@@ -309,6 +317,7 @@ module _ (earlier : List EntryData) (failed : List (ℕ × EntryData)) (view : O
                   halted_by = new.halted;
                   left_open = new.doubt;
                   new_is = refl;
+                  halted_is = halted;
                   doubt_is = doubt;
                 })),
           ),
@@ -363,11 +372,12 @@ module _ (earlier : List EntryData) (failed : List (ℕ × EntryData)) (view : O
         (left_is cur cur' session (log_full need room) left is p run refl opens k.sessions)
     decide fault h told causes on_base opens =
         fails h.1.0 h.0 h.1.1 h.1.2 told (left_is cur cur' session fault left is p run refl opens k.sessions)
-    decide device h told causes on_base opens = absurd (no_device causes_old causes_new inside causes)
+    decide device h told causes on_base opens =
+        wants p (inr told) h.1 (left_stays cur cur' session device left is p refl opens)
     decide (busy turn) h told causes on_base opens = absurd (no_busy causes_old causes_new inside causes)
     decide (damaged page) h told causes on_base opens = absurd (no_damaged causes_old causes_new inside causes)
     decide no_memory h told causes on_base opens =
-        wants p told h (left_stays cur cur' session no_memory left is p refl opens)
+        wants p (inl told) h (left_stays cur cur' session no_memory left is p refl opens)
 
   -- ---- a statement
 
@@ -399,6 +409,13 @@ module _ (earlier : List EntryData) (failed : List (ℕ × EntryData)) (view : O
   )
   finish (pending p) same h = absurd h
 
+  wanting_read : IsReadFault view causes_old causes_new reply → IsWanting
+  wanting_read wrong =
+      elim (read_so causes_old causes_new inside wrong.fault wrong.counted) [
+        | inl none ↦ inl (wrong.reply_is ∙ ap replies.refused none)
+        | inr failed ↦ inr (wrong.reply_is ∙ ap replies.refused failed)
+      ]
+
   abbrev Told : List ℕ → Type 0
   Told text = (next : RunData) × TellsOrNot run session text reply next × Keeps After next
 
@@ -408,10 +425,7 @@ module _ (earlier : List EntryData) (failed : List (ℕ × EntryData)) (view : O
     run,
     elim why [
       | inl unbuilt ↦ inl (inr (unbuilt.0.none, unbuilt.0.reply_is, refl))
-      | inr wrong ↦ inr (
-        wrong.reply_is ∙ ap replies.refused (only_memory causes_old causes_new inside wrong.fault wrong.counted),
-        refl,
-      )
+      | inr wrong ↦ inr (wanting_read wrong, refl)
     ],
     keeps_with earlier failed old new causes_old causes_new cur cur' run.sessions run k same
         (set_kept cur cur' (session - 1) left is kept ∙ k.sessions),
@@ -535,7 +549,7 @@ module _ (earlier : List EntryData) (failed : List (ℕ × EntryData)) (old new 
   abbrev StayEnded : Type 0
   StayEnded = (at : ℕ) → old.halted ≡ Some at → new.halted ≡ Some at
 
-  stays_so : StayEnded → causes_old.fault ≤ causes_new.fault → HadFailed → HasNow
+  stays_so : StayEnded → troubles_of causes_old ≤ troubles_of causes_new → HadFailed → HasNow
   stays_so still later (inl over) = inl (some_stays old.halted new.halted still over)
   stays_so still later (inr some) = inr (omega (arith, later, some))
 
@@ -559,7 +573,7 @@ module _ (earlier : List EntryData) (failed : List (ℕ × EntryData)) (old new 
     fine_decided asked (pages_full n heavy) h causes told = not_told reply (replies.pages_full n heavy) told refl
     fine_decided asked (log_full need room) h causes told = not_told reply (replies.log_full need room) told refl
     fine_decided asked fault h causes told = λ _. inr (fault_counted causes_old causes_new causes)
-    fine_decided asked device h causes told = absurd (no_device causes_old causes_new inside causes)
+    fine_decided asked device h causes told = λ _. inr (device_counted causes_old causes_new causes)
     fine_decided asked (busy turn) h causes told = absurd (no_busy causes_old causes_new inside causes)
     fine_decided asked (damaged page) h causes told = absurd (no_damaged causes_old causes_new inside causes)
     fine_decided asked no_memory h causes told = not_told reply replies.no_memory told refl
@@ -582,7 +596,7 @@ module _ (earlier : List EntryData) (failed : List (ℕ × EntryData)) (old new 
     halted_decided asked (log_full need room) h causes told at says =
         not_told reply (replies.log_full need room) told refl (halted_fault at reply says)
     halted_decided asked fault h causes told at says = absurd (cc (told_is reply replies.fault told, says))
-    halted_decided asked device h causes told at says = absurd (no_device causes_old causes_new inside causes)
+    halted_decided asked device h causes told at says = absurd (cc (told_is reply replies.device told, says))
     halted_decided asked (busy turn) h causes told at says = absurd (no_busy causes_old causes_new inside causes)
     halted_decided asked (damaged page) h causes told at says = absurd (no_damaged causes_old causes_new inside causes)
     halted_decided asked no_memory h causes told at says =
@@ -602,18 +616,32 @@ module _ (earlier : List EntryData) (failed : List (ℕ × EntryData)) (old new 
     stay_ended asked (damaged page) h = still h.2
     stay_ended asked no_memory h = still h
 
-  refused_fine : (view : Option ViewData) (text : List ℕ) (reply : ReplyData)
-      → (IsUnbuilt text reply × (causes_new ≡ causes_old)) ⊎ IsReadFault view causes_old causes_new reply
-      → IsTrue (is_fault reply.told) → ⊥
+  abbrev IsRefused : Option ViewData → List ℕ → ReplyData → Type 0
+  IsRefused view text reply =
+      (IsUnbuilt text reply × (causes_new ≡ causes_old)) ⊎ IsReadFault view causes_old causes_new reply
+
+  refused_fine : (view : Option ViewData) (text : List ℕ) (reply : ReplyData) → IsRefused view text reply
+      → IsTrue (is_fault reply.told) → HasNow
   refused_fine view text reply (inl unbuilt) = not_told reply replies.unbuilt unbuilt.0.reply_is refl
   refused_fine view text reply (inr wrong) =
-      not_told reply replies.no_memory
-      (wrong.reply_is ∙ ap replies.refused (only_memory causes_old causes_new inside wrong.fault wrong.counted)) refl
+      elim (read_so causes_old causes_new inside wrong.fault wrong.counted) [
+        | inl none ↦ not_told reply replies.no_memory (wrong.reply_is ∙ ap replies.refused none) refl
+        | inr failed ↦ λ _. inr (read_told causes_old causes_new wrong.fault wrong.counted failed)
+      ]
 
-  refused_later : (view : Option ViewData) (text : List ℕ) (reply : ReplyData)
-      → (IsUnbuilt text reply × (causes_new ≡ causes_old)) ⊎ IsReadFault view causes_old causes_new reply
-      → causes_old.fault ≤ causes_new.fault
-  refused_later view text reply (inl unbuilt) = omega (arith, ap (λ (c : Causes). c.fault) unbuilt.1)
+  refused_quiet : (view : Option ViewData) (text : List ℕ) (reply : ReplyData) → IsRefused view text reply
+      → (at : ℕ) → SaysHalted at reply → ⊥
+  refused_quiet view text reply (inl unbuilt) at says =
+      cc (told_is reply replies.unbuilt unbuilt.0.reply_is, says)
+  refused_quiet view text reply (inr wrong) at says =
+      elim (read_so causes_old causes_new inside wrong.fault wrong.counted) [
+        | inl none ↦ cc (told_is reply replies.no_memory (wrong.reply_is ∙ ap replies.refused none), says)
+        | inr failed ↦ cc (told_is reply replies.device (wrong.reply_is ∙ ap replies.refused failed), says)
+      ]
+
+  refused_later : (view : Option ViewData) (text : List ℕ) (reply : ReplyData) → IsRefused view text reply
+      → troubles_of causes_old ≤ troubles_of causes_new
+  refused_later view text reply (inl unbuilt) = omega (arith, ap troubles_of unbuilt.1)
   refused_later view text reply (inr wrong) = faults_read causes_old causes_new wrong.fault wrong.counted
 
 -- ---- the opening
@@ -649,22 +677,19 @@ some_reply : (b : Bool) → IsTrue (b || false) → IsTrue b
 some_reply true h = refl
 some_reply false h = h
 
-inside_of : (state : StateData) (causes : Causes) → IsKeptState state causes → IsInside causes
-inside_of state causes known = record {
-  device = known.inside.0;
-  busy = known.inside.1;
-  damaged = known.inside.2;
-}
+inside_of : (state : StateData) (causes : Causes) → IsKeptState state causes → causes.busy ≡ 0 → IsInside causes
+inside_of state causes known none = record { busy = none; damaged = known.inside }
 
 module _ (earlier : List EntryData) (failed : List (ℕ × EntryData)) (view : Option ViewData) (old new : StateData)
     (causes_old causes_new : Causes) (text : List ℕ) (cur cur' : List SessionData) (session : ℕ) (reply : Reply)
     (left : SessionData) (known : IsKeptState old causes_old) (after : IsKeptState new causes_new)
+    (none : causes_new.busy ≡ 0)
     (shows : view ≡ option_map view_of old.base) (is : cur' ≡ set cur (session - 1) left) where
   abbrev Said : ReplyData
   Said = reply_of reply
 
   inside : IsInside causes_new
-  inside = inside_of new causes_new after
+  inside = inside_of new causes_new after none
 
   abbrev Stepped : Type 0
   Stepped = IsStepped (kept_as earlier failed old causes_old cur) (statement session text)
@@ -676,7 +701,8 @@ module _ (earlier : List EntryData) (failed : List (ℕ × EntryData)) (view : O
       × Keeps (kept_as earlier failed new causes_new cur') next)
       → (IsTrue (is_fault Said.told) → HasFailed (store_as earlier failed new causes_new))
       → ((at : ℕ) → SaysHalted at Said → new.halted ≡ Some at)
-      → ((at : ℕ) → old.halted ≡ Some at → new.halted ≡ Some at) → causes_old.fault ≤ causes_new.fault → Stepped
+      → ((at : ℕ) → old.halted ≡ Some at → new.halted ≡ Some at) → troubles_of causes_old ≤ troubles_of causes_new
+      → Stepped
   stepped_by told fine ended stays later = record {
     steps = λ run k. (let t = told run k in (t.0, (Said, t.1, refl), t.2));
     fault_told = λ fault. fine (some_reply (is_fault Said.told) fault);
@@ -695,7 +721,9 @@ module _ (earlier : List EntryData) (failed : List (ℕ × EntryData)) (view : O
       (λ run k. refused_so earlier failed view old new causes_old causes_new cur cur' session Said left known shows
       inside
       is run k text h.why h.kept h.state)
-      (λ fault. absurd (fine fault)) (λ at says. absurd (fine (halted_fault at Said says)))
+      fine
+      (λ at says. absurd (refused_quiet earlier failed old new causes_old causes_new inside view text Said h.why at
+      says))
       (still earlier failed old new causes_old causes_new inside h.state)
       (refused_later earlier failed old new causes_old causes_new inside view text Said h.why)
   told_so (inr (inl h)) =
@@ -709,7 +737,7 @@ module _ (earlier : List EntryData) (failed : List (ℕ × EntryData)) (view : O
       is run k text h.statement h.is h.answer h.state)
       (λ fault. absurd (cc (fine, fault))) (λ at says. absurd (cc (fine, halted_fault at Said says)))
       (still earlier failed old new causes_old causes_new inside h.state)
-      (omega (arith, ap (λ (c : Causes). c.fault) h.causes))
+      (omega (arith, ap troubles_of h.causes))
   told_so (inr (inr h)) =
       let by = h.decided in
       stepped_by
@@ -730,14 +758,15 @@ module _ (earlier : List EntryData) (failed : List (ℕ × EntryData)) (view : O
 told_at : (before after : EarlierData) (view : Option ViewData) (old new : StateData) (causes_old causes_new : Causes)
     (text : List ℕ) (cur cur' : List SessionData) (session : ℕ) (reply : Reply) (left : SessionData)
     → after.entries ≡ before.entries → after.failed ≡ before.failed
-    → IsKeptState old causes_old → IsKeptState new causes_new → view ≡ option_map view_of old.base
+    → IsKeptState old causes_old → IsKeptState new causes_new → causes_new.busy ≡ 0
+    → view ≡ option_map view_of old.base
     → cur' ≡ set cur (session - 1) left
     → Executes session old new causes_old causes_new view text (get_or cur (session - 1) closed) reply left
     → IsStepped (record { store = store_behind before old causes_old; sessions = cur }) (statement session text)
     (to_session session (reply_of reply ∷ []))
     (record { store = store_behind after new causes_new; sessions = cur' })
-told_at before after view old new causes_old causes_new text cur cur' session reply left entries failed known now shows
-    is executes =
+told_at before after view old new causes_old causes_new text cur cur' session reply left entries failed known now none
+    shows is executes =
     subst (λ (es : List EntryData). IsStepped (kept_as before.entries before.failed old causes_old cur)
     (statement session text) (to_session session (reply_of reply ∷ []))
     (kept_as es after.failed new causes_new cur')) (sym entries)
@@ -745,12 +774,13 @@ told_at before after view old new causes_old causes_new text cur cur' session re
     (statement session text) (to_session session (reply_of reply ∷ []))
     (kept_as before.entries ds new causes_new cur')) (sym failed)
     (told_so before.entries before.failed view old new causes_old causes_new text cur cur' session reply left known now
-    shows is executes))
+    none shows is executes))
 
 pub told_behind : (before after : EarlierData) → after ≡ before → (view : Option ViewData) (old new : StateData)
     (causes_old causes_new : Causes) (text : List ℕ) (cur cur' : List SessionData) (session : ℕ) (reply : Reply)
     (left : SessionData)
-    → IsKeptState old causes_old → IsKeptState new causes_new → view ≡ option_map view_of old.base
+    → IsKeptState old causes_old → IsKeptState new causes_new → causes_new.busy ≡ 0
+    → view ≡ option_map view_of old.base
     → cur' ≡ set cur (session - 1) left
     → Executes session old new causes_old causes_new view text (get_or cur (session - 1) closed) reply left
     → IsStepped (record { store = store_behind before old causes_old; sessions = cur }) (statement session text)
@@ -770,7 +800,7 @@ wanting_behind before after same state causes text cur session =
     subst (λ (e : EarlierData). IsStepped (record { store = store_behind before state causes; sessions = cur })
     (statement session text) (to_session session (replies.refused replies.no_memory ∷ []))
     (record { store = store_behind e state causes; sessions = cur })) (sym same) (record {
-      steps = λ run k. (run, (replies.refused replies.no_memory, inr (refl, refl), refl), k);
+      steps = λ run k. (run, (replies.refused replies.no_memory, inr (inl refl, refl), refl), k);
       fault_told = λ told. absurd (cc told);
       failed_stays = λ failed. failed;
       halted_told = λ at told. absurd (cc (only (λ (reply : ReplyData). reply.told ≡ Err (replies.halted at))

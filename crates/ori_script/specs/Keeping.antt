@@ -1,23 +1,26 @@
 -- When what is kept of a run is what the run has come to, and what a line does to it.
 use Rattle.std.specs.Prelude.{◌≡◌, ◌⊎◌, ◌+◌, ◌-◌, ◌<◌, ◌≤◌, ℕ, List, [], ◌∷◌, ◌++◌, map, get_or, set, Option, Some}
 use Rattle.std.specs.Prelude.{None, Result}
-use Rattle.std.specs.Prelude.{Ok, Err, option_map, Any, IsTrue, IsSome, IfOk, ⊤}
+use Rattle.std.specs.Prelude.{Ok, Err, Any, IsTrue, IsSome, IfOk, ⊤}
 use Rattle.ori_bytes.specs.declared.causes.Causes.{Causes}
-use Rattle.ori_bytes.specs.declared.limits.TheConstants.{MAX_SESSIONS}
+use Rattle.ori_bytes.specs.declared.limits.TheConstants.{MAX_SESSIONS, PARTITIONS}
 use Rattle.ori_bytes.specs.declared.memory.NoMemory.{NoMemory}
 use Rattle.ori_spec_data.specs.Base.{EntryData}
 use Rattle.ori_spec_data.specs.Soundness.{IsSoundBase}
 use Rattle.ori_spec_data.specs.Keeping.{StateData}
-use Rattle.ori_spec_data.specs.Replies.{ReplyData, halted, unbuilt}
+use Rattle.ori_spec_data.specs.Replies.{ReplyData, halted, fault, busy}
 use Rattle.ori_spec_data.specs.Views.{ViewData}
 use Rattle.ori_spec_texts.specs.Line.{LineData, statement, tries, step, StepData, flush, settle, checkpoint, reopen}
 use Rattle.ori_spec_texts.specs.Line.{history, bag, check}
 use Rattle.ori_spec_texts.specs.Reply.{AnswerData, to_session, to_history, to_step, to_done, answer_text, tells_fault}
 use Rattle.ori_spec_runs.specs.Answer.{SessionData, closed}
 use Rattle.ori_spec_runs.specs.Run.{RunData, Step}
+use Rattle.ori_pool.specs.declared.fault.TendFault.{TendFault}
+use Rattle.ori_pool.specs.declared.fault.TendFault.TheVariants.{Fault, Halted, Busy}
 use Rattle.ori_model.specs.declared.reply.Reply.{Reply}
 use Rattle.ori_session.specs.Runs.{Executes}
 use Rattle.ori_session.specs.Sessions.{data_of}
+use Rattle.ori_engine.specs.Openings.{troubles_of}
 use Rattle.ori_script.specs.declared.past.Past.{Past}
 use Rattle.ori_script.specs.declared.sessions.Sessions.{Sessions}
 use Rattle.ori_script.specs.Pasts.{EarlierData, earlier_of}
@@ -75,40 +78,20 @@ pub record Keeps (kept : KeptData) (run : RunData) : Type 0 where
   pub limit : kept.store.state.limit ≡ run.limit
   pub sessions : kept.sessions ≡ run.sessions
 
--- commits have ended since the opening, or one was answered a fault
+-- commits have ended since the opening, or a fault was answered
 abbrev pub HasFailed : StoreData → Type 0
-HasFailed store = IsSome store.state.halted ⊎ (0 < store.causes.fault)
+HasFailed store = IsSome store.state.halted ⊎ (0 < troubles_of store.causes)
 
--- ---- a step
+-- ---- work on the homes and the log
 
--- what a step is answered over a history, where it isn't a reopening
-abbrev pub step_answer : List EntryData → StepData → Option AnswerData
-step_answer entries (flush part) = Some (to_step unbuilt)
-step_answer entries settle = Some (to_step unbuilt)
-step_answer entries checkpoint = Some (to_step unbuilt)
-step_answer entries reopen = None
-step_answer entries history = Some (to_history entries)
-step_answer entries (bag vertex dir class) = Some (to_step unbuilt)
-step_answer entries check = Some (to_step unbuilt)
+-- what it is answered
+abbrev pub tended : {T : Type 0} → Result T TendFault → AnswerData
+tended (Ok value) = to_done
+tended (Err Fault) = to_step fault
+tended (Err (Halted at)) = to_step (halted at)
+tended (Err (Busy turn)) = to_step (busy turn)
 
--- so it prints
-abbrev pub StepPrints : List EntryData → StepData → Option (List ℕ) → Type 0
-StepPrints entries s text = text ≡ option_map answer_text (step_answer entries s)
-
--- it prints something
-abbrev pub IsPrinted : StepData → Type 0
-IsPrinted (flush part) = ⊤
-IsPrinted settle = ⊤
-IsPrinted checkpoint = ⊤
-IsPrinted reopen = ⊥
-IsPrinted history = ⊤
-IsPrinted (bag vertex dir class) = ⊤
-IsPrinted check = ⊤
-
--- the text that a step prints, where there was memory for it
-abbrev pub StepAnswers : List EntryData → StepData → Result (Option (List ℕ)) NoMemory → Type 0
-StepAnswers entries s (Ok text) = StepPrints entries s text
-StepAnswers entries s (Err why) = IsPrinted s
+-- ---- what is printed
 
 -- a text is to be printed
 abbrev pub printed : Result (List ℕ) NoMemory → Result (Option (List ℕ)) NoMemory
@@ -143,11 +126,21 @@ TellsHalted at to_done = ⊥
 
 -- ---- a line
 
+-- a step's partition is one of 0 to 7
+abbrev pub IsOfPart : StepData → Type 0
+IsOfPart (flush part) = part < PARTITIONS
+IsOfPart settle = ⊤
+IsOfPart checkpoint = ⊤
+IsOfPart reopen = ⊤
+IsOfPart history = ⊤
+IsOfPart (bag vertex dir class) = ⊤
+IsOfPart check = ⊤
+
 -- a statement's session is one of 1 to 64
 abbrev pub IsOfSession : LineData → Type 0
 IsOfSession (statement session text) = (1 ≤ session) × (session ≤ MAX_SESSIONS)
 IsOfSession (tries session count text) = (1 ≤ session) × (session ≤ MAX_SESSIONS)
-IsOfSession (step s) = ⊤
+IsOfSession (step s) = IsOfPart s
 
 -- A line that asks for no reopening was run with this answer, and what is kept is what the run has come to. The answer
 -- tells of a fault only where one has come, and that commits have ended only where they have, at the count of faults
@@ -168,8 +161,19 @@ pub record IsAnswered (old : KeptData) (line : LineData) (text : Result (List �
   pub stepped : IsStepped old line answer new
   pub text_is : IfOk text (λ bytes. bytes ≡ answer_text answer)
 
+-- Such a step was run, behind whatever earlier openings and whatever is kept of the sessions.
+abbrev pub IsStepOf : StateData → Causes → StepData → Result (List ℕ) NoMemory → StateData → Causes → Type 0
+IsStepOf state_old causes_old s text state_new causes_new = (e : EarlierData) (sessions : List SessionData)
+    → IsAnswered (record { store = store_behind e state_old causes_old; sessions = sessions }) (step s) text
+    (record { store = store_behind e state_new causes_new; sessions = sessions })
+
 -- A line was run, and this is its answer's text; or it asks for a reopening, and nothing was done.
 abbrev pub Answers : KeptData → LineData → Result (Option (List ℕ)) NoMemory → KeptData → Type 0
 Answers old line (Ok None) new = (line ≡ step reopen) × (new ≡ old)
 Answers old line (Ok (Some text)) new = IsAnswered old line (Ok text) new
 Answers old line (Err why) new = IsAnswered old line (Err why) new
+
+-- A step was answered so, whatever is kept of the sessions.
+abbrev pub StepAnswers : StoreData → StepData → Result (Option (List ℕ)) NoMemory → StoreData → Type 0
+StepAnswers old s text new = (sessions : List SessionData)
+    → Answers (record { store = old; sessions = sessions }) (step s) text (record { store = new; sessions = sessions })

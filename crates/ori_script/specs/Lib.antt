@@ -1,5 +1,7 @@
 pub mod Numbers
 pub mod Pasts
+pub mod Founds
+pub mod Owning
 pub mod Keeping
 pub mod Script
 pub mod Turns

@@ -1,7 +1,6 @@
 -- What stands at an opening of a run, behind the earlier ones.
 use Rattle.std.specs.Prelude.{◌≡◌, ◌==◌, ℕ, ◌≤◌, Bool, false, List, [], ◌∷◌, ◌++◌, length, Any, Option, Some, None}
-use Rattle.std.specs.Prelude.{IfSome}
-use Rattle.std.specs.Prelude.{IsSome}
+use Rattle.std.specs.Prelude.{IfSome, ⊤}
 use Rattle.ori_bytes.specs.declared.causes.Causes.{Causes}
 use Rattle.ori_volume.specs.Causes.{Rose}
 use Rattle.ori_spec_data.specs.Limits.{FoundData}
@@ -15,13 +14,15 @@ use Rattle.ori_spec_crash.specs.Crash.{CrashSafe, doubts, AreWithin}
 use Rattle.ori_rows.specs.Stage.{IsDatabase, OpensTo}
 use Rattle.ori_model.specs.Standing.{PastData}
 use Rattle.ori_engine.specs.Doubts.{DoubtData, entry_in_doubt}
-use Rattle.ori_engine.specs.Openings.{Survives, LeavesBase, Finds, IsStarted, IsFresh, IsOpenedSince, IsCounted}
+use Rattle.ori_engine.specs.Openings.{Survives, LeavesBase, IsStarted, IsFresh, IsOpenedSince, IsCounted, troubles_of}
+use Rattle.ori_engine.specs.CacheRows.{OpenedTo}
 use Rattle.ori_engine.specs.Reopening.{LeavesAll, ReopensSince, HasTailOf, OpensWhole}
+use Rattle.ori_script.specs.Founds.{Finds}
 use Rattle.ori_script.specs.Pasts.{EarlierData, with_feed, decided}
 use Rattle.ori_spec_texts.specs.Reply.{AnswerData}
 use Rattle.ori_text.specs.Lines.{Reading}
 use Rattle.ori_script.specs.Keeping.{KeptData, reopenings}
-use Rattle.ori_script.specs.Script.{FailsToOpen, IsRun, TellFault, TellHalted, GoesOn}
+use Rattle.ori_script.specs.Script.{FailsToOpen, IsRun, TellFault, TellHalted, passed_by, GoesOn}
 use Rattle.ori_script.specs.Top.{CountsData, HaltBetween, Crashes}
 use Rattle.ori_script.specs.Reports.{report_on}
 
@@ -37,11 +38,13 @@ pub record IsClosedBy (state : StateData) (holds : PastData → Type 0) (before 
   pub base_is : state.base ≡ Some base
   pub feed_is : state.feed ≡ Some feed
   pub doubt_is : state.doubt ≡ entry_in_doubt doubt
+  pub limit_is : state.limit ≡ None
   pub joined : after ≡ with_feed before feed marks
-  pub crash : (first : PastData) → holds first
+  pub crash : (first : PastData) (base : BaseData) → holds first → OpenedTo base first
       → Tells (Survives feed (entry_in_doubt doubt) marks) first.story story
-  pub whole : (first : PastData) → holds first → Tells (LeavesAll state feed) first.story story
-  pub reads : (first : PastData) → holds first → Tells (ReopensSince state doubt) first.files files
+  pub whole : (first : PastData) (base : BaseData) → holds first → OpenedTo base first
+      → Tells (LeavesAll state feed) first.story story
+  pub reads : (first : PastData) → holds first → ReopensSince state doubt first files
 
 -- ---- what stands behind earlier openings
 
@@ -62,10 +65,9 @@ pub record GoesBehind (e : EarlierData) (base : BaseData) (first old at : Story)
 
 -- the same of what is told, where it is
 abbrev pub LeadsOver : EarlierData → Option Story → Option Story → Option Story → Type 0
-LeadsOver e None old at = (old ≡ None) × (at ≡ None)
-LeadsOver e (Some first) old at =
-    (begun : Story) × (old ≡ Some begun) × (ended : Story) × (at ≡ Some ended)
-    × ((base : BaseData) → OpensTo (files_of first.now.disk) base → GoesBehind e base first begun ended)
+LeadsOver e None old at = ⊤
+LeadsOver e (Some first) old at = (base : BaseData) → OpensTo (files_of first.now.disk) base
+    → (begun : Story) × (old ≡ Some begun) × (ended : Story) × (at ≡ Some ended) × GoesBehind e base first begun ended
 
 -- files that opened to a base open to one
 abbrev pub StaysDatabase : Option Files → Option Files → Type 0
@@ -145,7 +147,7 @@ decided_by e (Some doubt) tail opened = decided e doubt.entry (is_found doubt ta
 pub record Begins (old : VolumeData) (engine : EngineData) (new : VolumeData) : Type 0 where
   pub started : (found : FoundData) → Finds old.told.files found → IsStarted found engine.state
   pub fresh : IsFresh engine.state
-  pub no_fault : engine.causes.fault ≡ 0
+  pub no_fault : troubles_of engine.causes ≡ 0
   pub since : engine.holds old.told
   pub since_end : engine.holds new.told
   pub opened_since : IsOpenedSince old.faults old.log_faults engine.state.opening
@@ -182,7 +184,9 @@ pub record StandsAt (entry : VolumeData) (left_old left_new taken_old taken_new 
   pub halts : List (Option ℕ)
   pub begun : CountsData
   pub between : HaltBetween halts (counts_of entry) begun
-  pub goes_on : GoesOn entry.told.files halts left_old left_new taken_old taken_new reading kept
+  pub goes_on : GoesOn entry.told.files (passed_by halts entry.faults begun.faults) left_old left_new taken_old
+      taken_new
+      reading kept
   pub opened : IsOpenedSince begun.faults begun.log_faults engine.state.opening
   pub behind : StandsBehind engine.holds e entry.told
 
@@ -202,9 +206,8 @@ pub record HasRunOver (entry : VolumeData) (left_old left_new taken_old taken_ne
   pub one_each : length halts ≡ reopenings run.said
   pub few_decided : length e.failed ≤ reopenings run.said
   pub fault_told : TellFault answers → Rose entry.faults now.faults
-  pub fault_ends : TellFault answers → Any (λ h. IsSome h) (halts ++ halted ∷ [])
   pub halted_told : (at : ℕ) → TellHalted at answers → Any (λ h. h ≡ Some at) (halts ++ halted ∷ [])
-  pub crash : Tells (Crashes (report_on e false doubt)) entry.told.story now.told.story
+  pub crash : Crashes (report_on e false doubt) entry.told.story now.told.story
   pub volume_fault : status ≡ 5 → Rose entry.faults now.faults
   pub not_a_database : status ≡ 6 → IfSome now.told.files (λ fs. IsDatabase (files_data fs) → ⊥)
   pub never_lost : status ≡ 6 → IfSome entry.told.files (λ fs. (base : BaseData) → OpensTo fs base → ⊥)

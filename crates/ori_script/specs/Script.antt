@@ -1,7 +1,8 @@
 -- What a script's run has to do with what was read and what was printed, and where it ends.
-use Rattle.std.specs.Prelude.{◌≡◌, ◌⊎◌, ℕ, ◌+◌, ◌≤◌, Bool, false, List, [], ◌∷◌, ◌++◌, length, IsTrue, IsSome, Any}
+use Rattle.std.specs.Prelude.{◌≡◌, ◌⊎◌, ℕ, ◌+◌, ◌≤◌, Bool, false, List, [], ◌∷◌, ◌++◌, length, IsTrue, Any}
 use Rattle.std.specs.Prelude.{Option, Some}
 use Rattle.std.specs.Prelude.{unwrap_or}
+use Rattle.ori_volume.specs.Causes.{Rose}
 use Rattle.ori_volume.specs.Disk.{Files}
 use Rattle.ori_volume.specs.Streams.{Took, Gave}
 use Rattle.ori_spec_data.specs.Base.{EntryData}
@@ -13,7 +14,7 @@ use Rattle.ori_spec_crash.specs.Crash.{doubts}
 use Rattle.ori_spec_runs.specs.Run.{RunData, run_start, doubtful, Run}
 use Rattle.ori_text.specs.Lines.{Reading, joined, AreWhole, HasLast}
 use Rattle.ori_text.specs.LineReading.{IsAtEnd}
-use Rattle.ori_engine.specs.Openings.{Finds}
+use Rattle.ori_script.specs.Founds.{Finds}
 use Rattle.ori_script.specs.Keeping.{StoreData, KeptData, Keeps, HasFailed, TellsHalted, reopenings}
 
 -- ---- what is printed
@@ -124,13 +125,23 @@ TellFault answers = Any (λ a. IsTrue (tells_fault a)) answers
 abbrev pub TellHalted : ℕ → List AnswerData → Type 0
 TellHalted at answers = Any (λ a. TellsHalted at a) answers
 
--- commits have ended in an opening, or one was answered a fault in the last
-abbrev pub HadFailed : List (Option ℕ) → StoreData → Type 0
-HadFailed halts store = Any (λ h. IsSome h) halts ⊎ HasFailed store
+-- What is known of the earlier openings: whether commits ended in each, with the number of calls of the volume that had
+-- failed then; and how many had at the run's entry, and where the last opening began.
+pub record PassedData : Type 0 where
+  pub halts : List (Option ℕ)
+  pub first : ℕ
+  pub begun : ℕ
+
+abbrev pub passed_by : List (Option ℕ) → ℕ → ℕ → PassedData
+passed_by halts first begun = record { halts = halts; first = first; begun = begun }
+
+-- a call of the volume has failed before the last opening, or commits have ended or a fault was answered in it
+abbrev pub HadFailed : PassedData → StoreData → Type 0
+HadFailed passed store = Rose passed.first passed.begun ⊎ HasFailed store
 
 -- commits ended in an opening when so many calls of the volume had failed
-abbrev pub HadHalted : List (Option ℕ) → StoreData → ℕ → Type 0
-HadHalted halts store at = Any (λ h. h ≡ Some at) (halts ++ store.state.halted ∷ [])
+abbrev pub HadHalted : PassedData → StoreData → ℕ → Type 0
+HadHalted passed store at = Any (λ h. h ≡ Some at) (passed.halts ++ store.state.halted ∷ [])
 
 -- ---- while it goes on
 
@@ -146,43 +157,43 @@ pub record HasRead (left_old left_new : Option (List ℕ)) (reading : Reading) (
   pub whole : AreWhole lines ⊎ HasLast reading.ended lines reading.held
   pub reads : Reads 0 lines said stop
 
--- Lines have their answers, over openings of which commits ended in the earlier ones at these counts of faults. An
--- answer tells of a fault only where one has come, and that commits have ended only where they have, at the count of
--- faults that it names. A doubtful entry was decided by an opening each.
-pub record HasAnswered (halts : List (Option ℕ)) (said : List LineData) (answers : List AnswerData)
+-- Lines have their answers, over openings of which the earlier ones passed so. An answer tells of a fault only where
+-- one has come, and that commits have ended only where they have, at the count of faults that it names. A doubtful
+-- entry was decided by an opening each.
+pub record HasAnswered (passed : PassedData) (said : List LineData) (answers : List AnswerData)
     (store : StoreData) : Type 0 where
-  pub fault_told : TellFault answers → HadFailed halts store
-  pub halted_told : (at : ℕ) → TellHalted at answers → HadHalted halts store at
-  pub one_each : length halts ≡ reopenings said
+  pub fault_told : TellFault answers → HadFailed passed store
+  pub halted_told : (at : ℕ) → TellHalted at answers → HadHalted passed store at
+  pub one_each : length passed.halts ≡ reopenings said
   pub few_decided : length store.failed ≤ reopenings said
 
 -- A run goes on: all lines that were read so far have their answers, which were printed. It may have read one line
 -- more, which asks for a reopening.
-pub record HasComeTo (files : Option Files) (halts : List (Option ℕ))
+pub record HasComeTo (files : Option Files) (passed : PassedData)
     (left_old left_new taken_old taken_new : Option (List ℕ)) (reading : Reading) (late : List LineData)
     (kept : KeptData) : Type 0 where
   pub said : List LineData
   pub read : HasRead left_old left_new reading (said ++ late) at_end
   pub answers : List AnswerData
   pub run : (found : FoundData) → Finds files found → RunsTo found said answers kept
-  pub told : HasAnswered halts said answers kept.store
+  pub told : HasAnswered passed said answers kept.store
   pub gave : Gave taken_old taken_new (answers_text answers)
 
-abbrev pub GoesOn : Option Files → List (Option ℕ) → Option (List ℕ) → Option (List ℕ) → Option (List ℕ)
+abbrev pub GoesOn : Option Files → PassedData → Option (List ℕ) → Option (List ℕ) → Option (List ℕ)
     → Option (List ℕ) → Reading → KeptData → Type 0
-GoesOn files halts left_old left_new taken_old taken_new reading kept =
-    HasComeTo files halts left_old left_new taken_old taken_new reading [] kept
+GoesOn files passed left_old left_new taken_old taken_new reading kept =
+    HasComeTo files passed left_old left_new taken_old taken_new reading [] kept
 
-abbrev pub AsksReopening : Option Files → List (Option ℕ) → Option (List ℕ) → Option (List ℕ) → Option (List ℕ)
+abbrev pub AsksReopening : Option Files → PassedData → Option (List ℕ) → Option (List ℕ) → Option (List ℕ)
     → Option (List ℕ) → Reading → KeptData → Type 0
-AsksReopening files halts left_old left_new taken_old taken_new reading kept =
-    HasComeTo files halts left_old left_new taken_old taken_new reading (step reopen ∷ []) kept
+AsksReopening files passed left_old left_new taken_old taken_new reading kept =
+    HasComeTo files passed left_old left_new taken_old taken_new reading (step reopen ∷ []) kept
 
 -- ---- where it has ended
 
 -- A run has ended over this store.
-pub record HasEnded (files : Option Files) (halts : List (Option ℕ))
+pub record HasEnded (files : Option Files) (passed : PassedData)
     (left_old left_new taken_old taken_new : Option (List ℕ)) (status : ℕ) (store : StoreData) : Type 0 where
   pub answers : List AnswerData
   pub run : IsRun files left_old left_new taken_old taken_new status answers (left_of store)
-  pub told : HasAnswered halts run.said answers store
+  pub told : HasAnswered passed run.said answers store

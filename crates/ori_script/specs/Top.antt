@@ -1,9 +1,10 @@
 -- What the top call promises.
-use Rattle.std.specs.Prelude.{◌≡◌, ◌⊎◌, ◌↔◌, ◌≤◌, ℕ, Bool, false, List, [], ◌∷◌, ◌++◌, length, IsTrue, IsSome, IfSome}
+use Rattle.std.specs.Prelude.{◌≡◌, ◌⊎◌, ◌↔◌, ◌≤◌, ℕ, Bool, false, List, [], ◌∷◌, ◌++◌, length, IsTrue, IfSome}
+use Rattle.std.specs.Prelude.{IsSomeAnd}
 use Rattle.std.specs.Prelude.{Any, Option, Some, None}
 use Rattle.ori_volume.specs.Causes.{Rose}
 use Rattle.ori_volume.specs.Disk.{Files, files_of}
-use Rattle.ori_volume.specs.Story.{Story, Tells}
+use Rattle.ori_volume.specs.Story.{Story}
 use Rattle.ori_spec_data.specs.Base.{BaseData, initial_base, EntryData}
 use Rattle.ori_spec_data.specs.Limits.{FoundData}
 use Rattle.ori_spec_texts.specs.Line.{IsValid}
@@ -11,7 +12,8 @@ use Rattle.ori_spec_texts.specs.Reply.{AnswerData}
 use Rattle.ori_spec_crash.specs.Crash.{CrashSafe, doubts}
 use Rattle.ori_rows.specs.Stage.{IsDatabase, OpensTo}
 use Rattle.ori_log.specs.Files.{files_data}
-use Rattle.ori_engine.specs.Openings.{Finds, IsHaltedSince}
+use Rattle.ori_engine.specs.Openings.{IsHaltedSince}
+use Rattle.ori_script.specs.Founds.{Finds}
 use Rattle.ori_script.specs.Keeping.{reopenings}
 use Rattle.ori_script.specs.Script.{LeftData, IsRun, TellFault, TellHalted}
 
@@ -95,10 +97,9 @@ HaltBetween (halted ∷ halts) old new =
     × IsHaltedSince old.faults mid.faults old.log_faults mid.log_faults halted × HaltBetween halts mid new
 
 -- The volume was opened, and lines were run over one or more openings. Commits ended in an opening where a call on the
--- log failed in it, and only there. An answer tells of a fault only where a call on the volume failed and commits ended
--- in an opening. An answer that tells that commits have ended names the count of an opening. An opening comes for each
--- reopening, and decides one entry at most. Where the last reopening failed, its faults come behind the last opening's
--- end.
+-- log failed in it, and only there. An answer tells of a fault only where a call on the volume failed. An answer that
+-- tells that commits have ended names the count of an opening. An opening comes for each reopening, and decides one
+-- entry at most. Where the last reopening failed, its faults come behind the last opening's end.
 pub record IsRunOver (old new : OutsideData) (status : ℕ) (report : ReportData) : Type 0 where
   pub halts : List (Option ℕ)
   pub halted : Option ℕ
@@ -110,15 +111,15 @@ pub record IsRunOver (old new : OutsideData) (status : ℕ) (report : ReportData
   pub one_each : length halts ≡ reopenings run.said
   pub few_decided : length report.failed ≤ reopenings run.said
   pub fault_told : TellFault answers → Rose old.faults new.faults
-  pub fault_ends : TellFault answers → Any (λ h. IsSome h) (halts ++ halted ∷ [])
   pub halted_told : (at : ℕ) → TellHalted at answers → Any (λ h. h ≡ Some at) (halts ++ halted ∷ [])
   pub emptiness : (found : FoundData) → Finds old.files found → IsTrue report.was_empty ↔ (found.base ≡ initial_base)
 
--- A crash at any moment of the command leaves a prefix of its history with what was acknowledged, or that with an entry
--- whose own write failed.
-abbrev pub Crashes : ReportData → Story → Story → Type 0
-Crashes report old new = (base : BaseData) → OpensTo (files_of old.now.disk) base
-    → CrashSafe OpensTo base report.history (report.failed ++ doubts report.history report.doubt) report.marks old new
+-- Over each base that the files opened to, where their story was told: it is told still, and a crash at any moment of
+-- the command leaves a prefix of its history with what was acknowledged, or that with an entry whose own write failed.
+abbrev pub Crashes : ReportData → Option Story → Option Story → Type 0
+Crashes report first now = (base : BaseData) → IfSome first (λ old. OpensTo (files_of old.now.disk) base
+    → IsSomeAnd now (λ new. CrashSafe OpensTo base report.history
+    (report.failed ++ doubts report.history report.doubt) report.marks old new))
 
 -- a volume that opens, valid input, and no fault
 pub record IsFaultless (old new : OutsideData) : Type 0 where
@@ -140,7 +141,7 @@ pub record Promises (old new : OutsideData) (status : ℕ) (report : ReportData)
   -- run ended; or that no line was run.
   pub outcome : IsNotRun old new status report ⊎ IsRunOver old new status report
   -- A crash at any moment leaves a prefix of the history with every entry that was acknowledged.
-  pub crash : Tells (Crashes report) old.story new.story
+  pub crash : Crashes report old.story new.story
   -- Status 6 comes only where the files, as they read, aren't those of a database,
   pub not_a_database : status ≡ 6 → IfSome new.files (λ fs. IsDatabase (files_data fs) → ⊥)
   -- and never over files that opened to a base.

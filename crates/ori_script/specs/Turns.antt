@@ -12,7 +12,7 @@ use Rattle.ori_script.specs.declared.run.Turn.TheVariants.{Answered, Reopens, En
 use Rattle.ori_script.specs.declared.run.Stop.{Stop}
 use Rattle.ori_script.specs.declared.run.Stop.TheVariants as stops
 use Rattle.ori_script.specs.Keeping.{KeptData, IsStepped}
-use Rattle.ori_script.specs.Script.{GoesOn, AsksReopening, HasEnded}
+use Rattle.ori_script.specs.Script.{PassedData, GoesOn, AsksReopening, HasEnded}
 
 -- the status of a run that a fault of a line ends
 abbrev pub fault_status : LineFault → ℕ
@@ -45,22 +45,22 @@ TurnsBy old line taken_old taken_new Reopens new = (line ≡ step reopen) × (ta
 TurnsBy old line taken_old taken_new (Ended status) new = IsAnsweredTo old line taken_old taken_new (Ended status) new
 
 -- After a line the run goes on, or asks for a reopening, or has ended.
-abbrev pub IsTurned : Option Files → List (Option ℕ) → Option (List ℕ) → Option (List ℕ) → Option (List ℕ)
+abbrev pub IsTurned : Option Files → PassedData → Option (List ℕ) → Option (List ℕ) → Option (List ℕ)
     → Option (List ℕ) → Reading → KeptData → Turn → Type 0
-IsTurned files halts left_old left_new taken_old taken_new reading kept Answered =
-    GoesOn files halts left_old left_new taken_old taken_new reading kept
-IsTurned files halts left_old left_new taken_old taken_new reading kept Reopens =
-    AsksReopening files halts left_old left_new taken_old taken_new reading kept
-IsTurned files halts left_old left_new taken_old taken_new reading kept (Ended status) =
-    HasEnded files halts left_old left_new taken_old taken_new status kept.store
+IsTurned files passed left_old left_new taken_old taken_new reading kept Answered =
+    GoesOn files passed left_old left_new taken_old taken_new reading kept
+IsTurned files passed left_old left_new taken_old taken_new reading kept Reopens =
+    AsksReopening files passed left_old left_new taken_old taken_new reading kept
+IsTurned files passed left_old left_new taken_old taken_new reading kept (Ended status) =
+    HasEnded files passed left_old left_new taken_old taken_new status kept.store
 
 -- So do the lines of an opening stop.
-abbrev pub IsStopped : Option Files → List (Option ℕ) → Option (List ℕ) → Option (List ℕ) → Option (List ℕ)
+abbrev pub IsStopped : Option Files → PassedData → Option (List ℕ) → Option (List ℕ) → Option (List ℕ)
     → Option (List ℕ) → Reading → KeptData → Stop → Type 0
-IsStopped files halts left_old left_new taken_old taken_new reading kept stops.Reopens =
-    AsksReopening files halts left_old left_new taken_old taken_new reading kept
-IsStopped files halts left_old left_new taken_old taken_new reading kept (stops.Ended status) =
-    HasEnded files halts left_old left_new taken_old taken_new status kept.store
+IsStopped files passed left_old left_new taken_old taken_new reading kept stops.Reopens =
+    AsksReopening files passed left_old left_new taken_old taken_new reading kept
+IsStopped files passed left_old left_new taken_old taken_new reading kept (stops.Ended status) =
+    HasEnded files passed left_old left_new taken_old taken_new status kept.store
 
 -- ---- what is printed of a step that was done
 

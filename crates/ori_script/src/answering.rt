@@ -1,19 +1,23 @@
 // What the sessions and the database of a run answer to a line.
-ghost use Rattle.std.specs.Prelude.{◌≤◌, ◌≡◌, ◌+◌, ◌++◌, [], ◌∷◌, IfOk, OnOk, unwrap_or};
-ghost use Rattle.ori_bytes.specs.declared.limits.TheConstants.{MAX_SESSIONS};
-ghost use Rattle.ori_spec_texts.specs.Line.{statement};
+ghost use Rattle.std.specs.Prelude.{◌≤◌, ◌<◌, ◌≡◌, ◌+◌, ℕ, [], ◌∷◌, IfOk, OnOk, IsErrOf};
+ghost use Rattle.ori_bytes.specs.declared.limits.TheConstants.{MAX_SESSIONS, PARTITIONS};
+ghost use Rattle.ori_pool.specs.declared.fault.TendFault.{TendFault};
+ghost use Rattle.ori_spec_texts.specs.Line.{statement, flush, settle, checkpoint};
 ghost use Rattle.ori_spec_data.specs.Replies.{refused, unbuilt};
 ghost use Rattle.ori_spec_texts.specs.Reply.{to_session, answer_text};
 ghost use Rattle.ori_model.specs.Replies.{reply_of, refusal_of};
 ghost use Rattle.ori_text.specs.LineReading.{step_of, line_of};
 ghost use Rattle.ori_engine.specs.Openings.{StaysOpen};
+ghost use Rattle.ori_script.specs.declared.past.Past.{Past};
 ghost use Rattle.ori_script.specs.Pasts.{earlier_of, HasRoom, HasPlace, IsReady};
-ghost use Rattle.ori_script.specs.Keeping.{kept, IsOfSession, IsStepped, StepAnswers, IsAnswered, Answers, printed};
+ghost use Rattle.ori_script.specs.Keeping.{kept, store_behind, IsOfPart, IsOfSession, IsStepped, IsStepOf, StepAnswers};
+ghost use Rattle.ori_script.specs.Keeping.{IsAnswered, Answers, tended, printed};
 
 use crate::{Database, Past, Sessions};
 use ori_bytes::{NoMemory, Text};
 use ori_model::{Refusal, Reply, RidPairList, RowList};
-use ori_text::{Line, StepLine, history_text, reply_text, step_refusal_text};
+use ori_pool::TendFault;
+use ori_text::{Line, StepLine, history_text, reply_text, step_done_text, step_refusal_text};
 use std::alloc::Global;
 
 // The reply that a statement is refused.
@@ -107,23 +111,87 @@ fn to_print(text: Result<Text, NoMemory>) -> Result<Option<Text>, NoMemory>
     }
 }
 
-// The answer to a step of the store: the history is printed, and the others can't be done yet. `None` for a reopening,
-// before which the opening ends.
+// The text of what work on the homes and the log was answered.
+fn tended_text(alloc: Global, done: Result<(), TendFault>) -> Result<Text, NoMemory>
+    requires alone { (turn : ℕ) → IsErrOf done (TendFault.Busy turn) → ⊥ }
+    ensures { IfOk result (λ t. t ≡ answer_text (tended done)) }
+{
+    match done {
+        Ok(()) => step_done_text(alloc),
+        Err(TendFault::Fault) => step_refusal_text(alloc, &Refusal::Fault),
+        Err(TendFault::Halted { at_fault }) => step_refusal_text(
+            alloc,
+            &Refusal::Halted { at_fault },
+        ),
+        Err(TendFault::Busy { .. }) => unreachable!(),
+    }
+}
+
+// It was done, whether a page was written or not.
+fn flushed(done: Result<bool, TendFault>) -> Result<(), TendFault>
+    ensures told { tended result ≡ tended done }
+    ensures why { (fault : TendFault) → IsErrOf result fault → IsErrOf done fault }
+{
+    match done {
+        Ok(_) => Ok(()),
+        Err(fault) => Err(fault),
+    }
+}
+
+// Writes a page of a partition home, where one is unwritten.
+fn flush_text<D: Database>(alloc: Global, database: &mut D, part: u8) -> Result<Text, NoMemory>
+    requires { part < PARTITIONS }
+    ensures answered { IsStepOf (D.state database.old) (D.causes database.old) (flush part) result
+        (D.state database.new) (D.causes database.new) }
+    ensures ready { (past : Past) → IsReady past (D.state database.old) → IsReady past (D.state database.new) }
+    ensures stays { StaysOpen D.state D.sound database.old database.new }
+{
+    let done = database.flush(part);
+    tended_text(alloc, flushed(done))
+}
+
+// Makes the homes firm.
+fn settle_text<D: Database>(alloc: Global, database: &mut D) -> Result<Text, NoMemory>
+    ensures answered { IsStepOf (D.state database.old) (D.causes database.old) settle result
+        (D.state database.new) (D.causes database.new) }
+    ensures ready { (past : Past) → IsReady past (D.state database.old) → IsReady past (D.state database.new) }
+    ensures stays { StaysOpen D.state D.sound database.old database.new }
+{
+    let done = database.settle();
+    tended_text(alloc, done)
+}
+
+// Empties the log behind the homes.
+fn checkpoint_text<D: Database>(alloc: Global, database: &mut D) -> Result<Text, NoMemory>
+    ensures answered { IsStepOf (D.state database.old) (D.causes database.old) checkpoint result
+        (D.state database.new) (D.causes database.new) }
+    ensures ready { (past : Past) → IsReady past (D.state database.old) → IsReady past (D.state database.new) }
+    ensures stays { StaysOpen D.state D.sound database.old database.new }
+{
+    let done = database.checkpoint();
+    tended_text(alloc, done)
+}
+
+// The answer to a step of the store. `None` for a reopening, before which the opening ends.
 fn step_text<D: Database>(
     alloc: Global,
     past: &Past,
-    database: &D,
+    database: &mut D,
     step: &StepLine,
 ) -> Result<Option<Text>, NoMemory>
-    ensures { let feed = unwrap_or (D.state database.now).feed [] in
-        StepAnswers ((earlier_of past.now).entries ++ feed) (step_of step.now) result }
+    requires { IsOfPart (step_of step.now) }
+    ensures answered { StepAnswers (store_behind (earlier_of past.now) (D.state database.old) (D.causes database.old))
+        (step_of step.now) result
+        (store_behind (earlier_of past.now) (D.state database.new) (D.causes database.new)) }
+    ensures ready { IsReady past.now (D.state database.old) → IsReady past.now (D.state database.new) }
+    ensures stays { StaysOpen D.state D.sound database.old database.new }
 {
     match step {
         StepLine::History => to_print(history_text(alloc, past.entries(), database.entries())),
         StepLine::Reopen => Ok(None),
-        StepLine::Flush { .. } => to_print(step_refusal_text(alloc, &Refusal::Unbuilt)),
-        StepLine::Settle => to_print(step_refusal_text(alloc, &Refusal::Unbuilt)),
-        StepLine::Checkpoint => to_print(step_refusal_text(alloc, &Refusal::Unbuilt)),
+        StepLine::Flush { part } => to_print(flush_text(alloc, database, *part)),
+        StepLine::Settle => to_print(settle_text(alloc, database)),
+        StepLine::Checkpoint => to_print(checkpoint_text(alloc, database)),
         StepLine::Bag { .. } => to_print(step_refusal_text(alloc, &Refusal::Unbuilt)),
         StepLine::Check => to_print(step_refusal_text(alloc, &Refusal::Unbuilt)),
     }

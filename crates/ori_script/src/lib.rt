@@ -6,11 +6,13 @@
 
 mod answering;
 mod database;
+mod opening;
 mod past;
 mod reopening;
 mod run;
 mod script;
 mod sessions;
+mod sole;
 pub mod status;
 
 pub use answering::answer;
@@ -18,3 +20,4 @@ pub use database::Database;
 pub use past::Past;
 pub use script::{no_report, run_script};
 pub use sessions::Sessions;
+pub use sole::Sole;

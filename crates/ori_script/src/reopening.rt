@@ -1,7 +1,9 @@
 // The end of an opening, and the next one.
-ghost use Rattle.std.specs.Prelude.{◌≡◌, ◌⊎◌, Option, IsSome, option_map, replicate, IfOk, IfErr, OnOk};
+ghost use Rattle.std.specs.Prelude.{◌≡◌, ◌⊎◌, ℕ, Option, IsSome, option_map, replicate, IfOk, IfErr, OnOk};
 ghost use Rattle.ori_bytes.specs.declared.limits.TheConstants.{MAX_SESSIONS};
 ghost use Rattle.ori_spec_runs.specs.Answer.{closed};
+ghost use Rattle.ori_volume.specs.declared.file.FileNo.{FileNo};
+ghost use Rattle.ori_turns.specs.declared.opening.StartFault.{StartFault};
 ghost use Rattle.ori_model.specs.Data.{entry_of};
 ghost use Rattle.ori_engine.specs.Doubts.{DoubtData, doubt_of, entry_in_doubt};
 ghost use Rattle.ori_script.specs.Pasts.{earlier_of, IsReady, HasRoom, HasPlace, doubt_count};
@@ -9,10 +11,12 @@ ghost use Rattle.ori_script.specs.Keeping.{sessions_of};
 ghost use Rattle.ori_script.specs.Openings.{volume_data, engine_data, HasClosed, FailsToReopen, ComesToNext};
 ghost use Rattle.ori_script.specs.Openings.{decided_by};
 
-use crate::{Past, Sessions, status};
+use crate::opening::{EndedVolume, NotOpened, end_volume, open_volume};
+use crate::{Past, Sessions, Sole, status};
 use ori_bytes::NoMemory;
-use ori_engine::{Doubt, Ended, Engine, StartFault, Unopened};
+use ori_engine::{Doubt, Engine};
 use ori_model::{Entry, Reader};
+use ori_turns::StartFault;
 use ori_volume::Volume;
 use std::alloc::Global;
 
@@ -33,20 +37,24 @@ pub(crate) struct Left<V: Volume> {
 
 /// The status of a volume that wasn't opened.
 pub(crate) fn start_status(fault: StartFault) -> u8
+    requires alone { (turn : ℕ) → fault ≡ StartFault.Busy turn → ⊥ }
     ensures volume { result ≡ 5 → fault ≡ StartFault.Fault }
-    ensures form { result ≡ 6 → fault ≡ StartFault.NotADatabase }
+    ensures form { result ≡ 6 → (file : FileNo) × (fault ≡ StartFault.NotADatabase file) }
     ensures why { (result ≡ 2) ⊎ (result ≡ 5) ⊎ (result ≡ 6) }
 {
     match fault {
         StartFault::Fault => status::VOLUME_FAILED,
-        StartFault::NotADatabase => status::NOT_A_DATABASE,
+        StartFault::NotADatabase { .. } => status::NOT_A_DATABASE,
         StartFault::NoMemory => status::NO_MEMORY,
+        StartFault::Busy { .. } => unreachable!(),
     }
 }
 
 /// A copy of the entry in doubt, where one is.
-pub(crate) fn copy_doubt<V: Volume>(engine: &Engine<V>) -> Result<Option<Entry>, NoMemory>
-    ensures { IfOk result (λ copy. option_map entry_of copy ≡ (⟦<Engine<V> as Reader>⟧.state engine.now).doubt) }
+pub(crate) fn copy_doubt<V: Volume, F: Sole<V> + Drop>(
+    engine: &Engine<V, F>,
+) -> Result<Option<Entry>, NoMemory>
+    ensures { IfOk result (λ copy. option_map entry_of copy ≡ (⟦<Engine<V, F> as Reader>⟧.state engine.now).doubt) }
 {
     match engine.doubt() {
         None => Ok(None),
@@ -56,23 +64,22 @@ pub(crate) fn copy_doubt<V: Volume>(engine: &Engine<V>) -> Result<Option<Entry>,
 
 /// Ends an opening: its entries and their marks join those of the earlier ones, for which there is room. Takes no
 /// memory.
-pub(crate) fn close<V: Volume>(engine: Engine<V>, past: &mut Past) -> Left<V>
-    requires { IsReady past.old (⟦<Engine<V> as Reader>⟧.state engine) }
+pub(crate) fn close<V: Volume, F: Sole<V> + Drop>(engine: Engine<V, F>, past: &mut Past) -> Left<V>
+    requires { IsReady past.old (⟦<Engine<V, F> as Reader>⟧.state engine) }
     ensures closed { let seen = volume_data V.files V.story V.faults V.log_faults in
-        HasClosed (engine_data ⟦<Engine<V> as Reader>⟧.state ⟦<Engine<V> as Reader>⟧.causes
-        ⟦<Engine<V> as Reader>⟧.sound engine) (earlier_of past.old) (earlier_of past.new)
+        HasClosed (engine_data ⟦<Engine<V, F> as Reader>⟧.state ⟦<Engine<V, F> as Reader>⟧.causes
+        ⟦<Engine<V, F> as Reader>⟧.sound engine) (earlier_of past.old) (earlier_of past.new)
         (option_map doubt_of result.doubt) (seen result.volume) }
-    ensures room { HasRoom past.new (doubt_count (⟦<Engine<V> as Reader>⟧.state engine).doubt) }
-    ensures place { IsSome (⟦<Engine<V> as Reader>⟧.state engine).doubt → HasPlace past.new }
+    ensures room { HasRoom past.new (doubt_count (⟦<Engine<V, F> as Reader>⟧.state engine).doubt) }
+    ensures place { IsSome (⟦<Engine<V, F> as Reader>⟧.state engine).doubt → HasPlace past.new }
 {
     engine.keeps();
-    engine.keeps_counts();
-    let Ended {
+    let EndedVolume {
         volume,
         feed,
         marks,
         doubt,
-    } = engine.end();
+    } = end_volume(engine);
     past.take(feed, marks);
     Left { volume, doubt }
 }
@@ -88,13 +95,17 @@ fn entry_alone(doubt: Option<Doubt>) -> Option<Entry>
 }
 
 /// Ends a run with an opening.
-pub(crate) fn close_run<V: Volume>(status: u8, engine: Engine<V>, past: &mut Past) -> Closed<V>
-    requires { IsReady past.old (⟦<Engine<V> as Reader>⟧.state engine) }
+pub(crate) fn close_run<V: Volume, F: Sole<V> + Drop>(
+    status: u8,
+    engine: Engine<V, F>,
+    past: &mut Past,
+) -> Closed<V>
+    requires { IsReady past.old (⟦<Engine<V, F> as Reader>⟧.state engine) }
     ensures status { result.status ≡ status }
     ensures closed { let seen = volume_data V.files V.story V.faults V.log_faults in
         (doubt : Option DoubtData) × (option_map entry_of result.doubt ≡ entry_in_doubt doubt)
-        × HasClosed (engine_data ⟦<Engine<V> as Reader>⟧.state ⟦<Engine<V> as Reader>⟧.causes
-        ⟦<Engine<V> as Reader>⟧.sound engine) (earlier_of past.old) (earlier_of past.new) doubt
+        × HasClosed (engine_data ⟦<Engine<V, F> as Reader>⟧.state ⟦<Engine<V, F> as Reader>⟧.causes
+        ⟦<Engine<V, F> as Reader>⟧.sound engine) (earlier_of past.old) (earlier_of past.new) doubt
         (seen result.volume) }
 {
     let Left { volume, doubt } = close(engine, past);
@@ -129,23 +140,23 @@ fn decide(past: &mut Past, doubt: Option<Doubt>, copy: Option<Entry>, tail: u64,
 
 /// Ends an opening and comes to the next one, whose sessions have nothing open; or to the end of the run, where that
 /// fails. Memory is taken before the opening ends, but for what the next one takes.
-pub(crate) fn reopen<V: Volume>(
+pub(crate) fn reopen<V: Volume, F: Sole<V> + Drop>(
     alloc: Global,
-    engine: Engine<V>,
+    engine: Engine<V, F>,
     past: &mut Past,
     sessions: &mut Sessions,
-) -> Result<Engine<V>, Closed<V>>
-    requires { IsReady past.old (⟦<Engine<V> as Reader>⟧.state engine) }
+) -> Result<Engine<V, F>, Closed<V>>
+    requires { IsReady past.old (⟦<Engine<V, F> as Reader>⟧.state engine) }
     ensures goes { let seen = volume_data V.files V.story V.faults V.log_faults in
-        let knows = engine_data ⟦<Engine<V> as Reader>⟧.state ⟦<Engine<V> as Reader>⟧.causes
-        ⟦<Engine<V> as Reader>⟧.sound in
+        let knows = engine_data ⟦<Engine<V, F> as Reader>⟧.state ⟦<Engine<V, F> as Reader>⟧.causes
+        ⟦<Engine<V, F> as Reader>⟧.sound in
         IfOk result (λ next. ComesToNext (knows engine) (earlier_of past.old) (earlier_of past.new) (knows next)
-        (seen next.volume)) }
-    ensures ready { IfOk result (λ next. IsReady past.new (⟦<Engine<V> as Reader>⟧.state next)) }
+        (seen (F.held next.pool.overlay.source.frames))) }
+    ensures ready { IfOk result (λ next. IsReady past.new (⟦<Engine<V, F> as Reader>⟧.state next)) }
     ensures closed { OnOk result (sessions_of sessions.new ≡ replicate MAX_SESSIONS closed) }
     ensures fails { let seen = volume_data V.files V.story V.faults V.log_faults in
-        let knows = engine_data ⟦<Engine<V> as Reader>⟧.state ⟦<Engine<V> as Reader>⟧.causes
-        ⟦<Engine<V> as Reader>⟧.sound in
+        let knows = engine_data ⟦<Engine<V, F> as Reader>⟧.state ⟦<Engine<V, F> as Reader>⟧.causes
+        ⟦<Engine<V, F> as Reader>⟧.sound in
         IfErr result (λ end. FailsToReopen (knows engine) (earlier_of past.old) (earlier_of past.new) end.status
         (option_map entry_of end.doubt) (seen end.volume)) }
 {
@@ -156,9 +167,9 @@ pub(crate) fn reopen<V: Volume>(
         return Err(close_run(status::NO_MEMORY, engine, past));
     };
     let Left { volume, doubt } = close(engine, past);
-    let engine = match Engine::start(alloc, volume) {
+    let engine = match open_volume(alloc, volume) {
         Ok(engine) => engine,
-        Err(Unopened { fault, volume }) => {
+        Err(NotOpened { fault, volume }) => {
             return Err(Closed {
                 status: start_status(fault),
                 volume,

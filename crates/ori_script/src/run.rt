@@ -7,7 +7,7 @@ ghost use Rattle.ori_text.specs.LineReading.{line_of};
 ghost use Rattle.ori_engine.specs.Openings.{StaysOpen};
 ghost use Rattle.ori_script.specs.Pasts.{earlier_of, IsReady};
 ghost use Rattle.ori_script.specs.Keeping.{IsOfSession, kept};
-ghost use Rattle.ori_script.specs.Script.{GoesOn};
+ghost use Rattle.ori_script.specs.Script.{PassedData, GoesOn};
 ghost use Rattle.ori_script.specs.Turns.{TurnsBy, IsTurned, IsStopped, fault_status};
 
 use crate::{Database, Past, Sessions, answer, status};
@@ -92,10 +92,10 @@ fn take_turn<D: Database, S: Source, K: Sink>(
 ) -> Turn
     requires { reader.old.given ≤ MAX_INPUT_BYTES }
     ensures turned { let keeps = kept D.state D.causes in
-        (files : Option Files) (halts : List (Option ℕ)) (left taken : Option (List ℕ))
-        → GoesOn files halts left (S.left source.old) taken (K.taken sink.old) reader.old
+        (files : Option Files) (passed : PassedData) (left taken : Option (List ℕ))
+        → GoesOn files passed left (S.left source.old) taken (K.taken sink.old) reader.old
         (keeps past.old database.old sessions.old)
-        → IsTurned files halts left (S.left source.new) taken (K.taken sink.new) reader.new
+        → IsTurned files passed left (S.left source.new) taken (K.taken sink.new) reader.new
         (keeps past.new database.new sessions.new) result }
     ensures same { earlier_of past.new ≡ earlier_of past.old }
     ensures ready { IsReady past.old (D.state database.old) → IsReady past.new (D.state database.new) }
@@ -130,10 +130,10 @@ pub(crate) fn run_lines<D: Database, S: Source, K: Sink>(
 ) -> Stop
     requires { reader.old.given ≤ MAX_INPUT_BYTES }
     ensures run { let keeps = kept D.state D.causes in
-        (files : Option Files) (halts : List (Option ℕ)) (left taken : Option (List ℕ))
-        → GoesOn files halts left (S.left source.old) taken (K.taken sink.old) reader.old
+        (files : Option Files) (passed : PassedData) (left taken : Option (List ℕ))
+        → GoesOn files passed left (S.left source.old) taken (K.taken sink.old) reader.old
         (keeps past.old database.old sessions.old)
-        → IsStopped files halts left (S.left source.new) taken (K.taken sink.new) reader.new
+        → IsStopped files passed left (S.left source.new) taken (K.taken sink.new) reader.new
         (keeps past.new database.new sessions.new) result }
     ensures same { earlier_of past.new ≡ earlier_of past.old }
     ensures ready { IsReady past.old (D.state database.old) → IsReady past.new (D.state database.new) }

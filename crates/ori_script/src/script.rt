@@ -1,7 +1,7 @@
 // A script over a volume, from its opening to its end.
 ghost use Rattle.std.specs.Prelude.{◌≡◌, ◌≤◌, Option, Some, option_map};
 ghost use Rattle.ori_volume.specs.Causes.{Rose};
-ghost use Rattle.ori_volume.specs.Story.{Story, Tells};
+ghost use Rattle.ori_volume.specs.Story.{Story};
 ghost use Rattle.ori_model.specs.Data.{entry_of};
 ghost use Rattle.ori_script.specs.Pasts.{nothing_earlier, earlier_of, IsReady};
 ghost use Rattle.ori_script.specs.Reports.{report_of};
@@ -9,20 +9,22 @@ ghost use Rattle.ori_script.specs.Turns.{SaysDone};
 ghost use Rattle.ori_script.specs.Openings.{VolumeData, volume_data, engine_data, TellsOne, Begins, HasRunOver};
 ghost use Rattle.ori_script.specs.Top.{empty_report, outside, Crashes, Promises};
 
+use crate::opening::{NotOpened, open_volume};
 use crate::reopening::{Closed, close_run, reopen, start_status};
 use crate::run::{Stop, run_lines};
-use crate::{Past, Sessions, status};
+use crate::{Past, Sessions, Sole, status};
 use ori_bytes::NumberList;
-use ori_engine::{Engine, Unopened};
+use ori_engine::Engine;
 use ori_model::{EntryList, Outcome, PlacedList, Reader, Report};
 use ori_text::{LineReader, print, step_done_text};
+use ori_turns::Owned;
 use ori_volume::{Failed, Sink, Source, Volume};
 use std::alloc::Global;
 
 /// The report of no run; takes no memory.
 pub fn no_report(alloc: Global) -> Report
     ensures nothing { report_of result ≡ empty_report }
-    ensures still { (story : Option Story) → Tells (Crashes (report_of result)) story story }
+    ensures still { (story : Option Story) → Crashes (report_of result) story story }
 {
     Report {
         was_empty: false,
@@ -49,19 +51,20 @@ fn say_done<K: Sink>(alloc: Global, sink: &mut K) -> Option<u8>
 }
 
 // The lines over one opening after the other, up to the end of the run.
-fn run_openings<V: Volume, S: Source, K: Sink>(
+fn run_openings<V: Volume, F: Sole<V> + Drop, S: Source, K: Sink>(
     alloc: Global,
-    engine: Engine<V>,
+    engine: Engine<V, F>,
     past: &mut Past,
     source: &mut S,
     sink: &mut K,
 ) -> Closed<V>
     requires first { earlier_of past.old ≡ nothing_earlier }
-    requires ready { IsReady past.old (⟦<Engine<V> as Reader>⟧.state engine) }
+    requires ready { IsReady past.old (⟦<Engine<V, F> as Reader>⟧.state engine) }
     ensures over { let seen = volume_data V.files V.story V.faults V.log_faults in
-        let knows = engine_data ⟦<Engine<V> as Reader>⟧.state ⟦<Engine<V> as Reader>⟧.causes
-        ⟦<Engine<V> as Reader>⟧.sound in
-        (entry : VolumeData) → TellsOne entry.told → Begins entry (knows engine) (seen engine.volume)
+        let knows = engine_data ⟦<Engine<V, F> as Reader>⟧.state ⟦<Engine<V, F> as Reader>⟧.causes
+        ⟦<Engine<V, F> as Reader>⟧.sound in
+        (entry : VolumeData) → TellsOne entry.told
+        → Begins entry (knows engine) (seen (F.held engine.pool.overlay.source.frames))
         → HasRunOver entry (S.left source.old) (S.left source.new) (K.taken sink.old) (K.taken sink.new) result.status
         (earlier_of past.new) (option_map entry_of result.doubt) (seen result.volume) }
     ensures no_words { result.status ≡ 1 → ⊥ }
@@ -117,9 +120,9 @@ pub fn run_script<V: Volume, S: Source, K: Sink>(
         (report_of result.report) }
     ensures no_words { result.status ≡ 1 → ⊥ }
 {
-    let engine = match Engine::start(alloc, volume) {
+    let engine: Engine<V, Owned<V>> = match open_volume(alloc, volume) {
         Ok(engine) => engine,
-        Err(Unopened { fault, volume }) => {
+        Err(NotOpened { fault, volume }) => {
             return Outcome {
                 status: start_status(fault),
                 volume,

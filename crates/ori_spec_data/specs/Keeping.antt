@@ -173,10 +173,12 @@ pub record Joins (old : StateData) (entry : EntryData) (new : StateData) : Type 
   pub doubt : new.doubt ≡ old.doubt
   pub opening : new.opening ≡ old.opening
 
--- A write failed. Nothing has changed, or no more than that commits have ended and the entry is in doubt.
+-- A write failed. Commits may have ended, and only then may the entry be in doubt: so it is where its own write failed.
+-- Nothing else has changed.
 pub record Breaks (old : StateData) (entry : EntryData) (new : StateData) : Type 0 where
   pub same : new ≡ record old { halted = new.halted; doubt = new.doubt }
-  pub doubt : ((new.doubt ≡ old.doubt) × (new.halted ≡ old.halted)) ⊎ ((new.doubt ≡ Some entry) × IsSome new.halted)
+  pub halted : (new.halted ≡ old.halted) ⊎ IsSome new.halted
+  pub doubt : (new.doubt ≡ old.doubt) ⊎ ((new.doubt ≡ Some entry) × IsSome new.halted)
 
 -- What a session asks is decided on the state in this order: halted; the feed is full; the base refuses it; pages are
 -- full; the log is full; it is accepted. Each answer but out of memory comes exactly where it is its turn, or where a

@@ -1,6 +1,6 @@
 -- The history of a run is legal, and leads to the run's base.
-use Rattle.std.proofs.Common.{◌≡◌, List, [], ◌∷◌, ◌++◌, Option, Some, None, option_map, IsSome, IfSome, ℕ, inl, inr}
-use Rattle.std.proofs.Common.{refl}
+use Rattle.std.proofs.Common.{◌≡◌, ◌⊎◌, List, [], ◌∷◌, ◌++◌, Option, Some, None, option_map, IsSome, IfSome, ℕ}
+use Rattle.std.proofs.Common.{inl, inr, refl}
 use Rattle.std.proofs.Common.{sym, ap, subst, ◌∙◌}
 use Rattle.ori_spec_data.specs.Base.{BaseData, EntryData, AskedData, asks_commit, asks_define}
 use Rattle.ori_spec_data.specs.Apply.{apply, replay}
@@ -18,7 +18,7 @@ use Rattle.ori_spec_runs.specs.Answer.{SessionData, with_open, PendingData, one,
 use Rattle.ori_spec_runs.specs.Answer.{answered, turned, pending, meaning}
 use Rattle.ori_spec_runs.specs.Run.{RunData, run_start, session_of, with_session, left_by, first_of, feed_cause}
 use Rattle.ori_spec_runs.specs.Run.{cause, Accepts, Fails, DecidesBy, Replies, reopened, joined, Reopens}
-use Rattle.ori_spec_runs.specs.Run.{Tells, TellsOrNot, StepTells, Step, Run}
+use Rattle.ori_spec_runs.specs.Run.{Tells, TellsOrNot, Checkpoints, StepTells, Step, Run}
 use Rattle.ori_spec_data.proofs.Kept.{apply_sound}
 
 -- ---- histories with one entry more
@@ -136,6 +136,12 @@ module _ (base : BaseData) (old new : RunData) (session : ℕ) (p : PendingData)
         ended = λ some. absurd (cc (subst (λ (d : Option EntryData). IsSome d) none some));
       })
 
+  -- commits that have ended stay ended
+  ended_by : {halted_by : Option ℕ} → (halted_by ≡ old.halted) ⊎ IsSome halted_by → IsSome old.halted
+      → IsSome halted_by
+  ended_by (inl same) some = subst (λ (o : Option ℕ). IsSome o) (sym same) some
+  ended_by (inr own) some = own
+
   led_failed : IsUnrefused old (asked_by p) → Fails old session p Entry reply new → IsLed base new
   led_failed free f =
       let left = led_left base old session p led in
@@ -146,12 +152,12 @@ module _ (base : BaseData) (old new : RunData) (session : ℕ) (p : PendingData)
         sound = left.sound;
         doubted = elim f.doubt_is [
           | inl same ↦ doubt_on
-              (subst (λ (d : Option EntryData). IfSome d (IsSoundOn old.base)) (sym same.0) led.doubted)
+              (subst (λ (d : Option EntryData). IfSome d (IsSoundOn old.base)) (sym same) led.doubted)
           | inr own ↦ doubt_on (subst (λ (d : Option EntryData). IfSome d (IsSoundOn old.base)) (sym own.0) on)
         ];
         ended = elim f.doubt_is [
-          | inl same ↦ λ some. subst (λ (o : Option ℕ). IsSome o) (sym same.1)
-              (led.ended (subst (λ (d : Option EntryData). IsSome d) same.0 some))
+          | inl same ↦ λ some. ended_by f.halted_is
+              (led.ended (subst (λ (d : Option EntryData). IsSome d) same some))
           | inr own ↦ λ some. own.1
         ];
       })
@@ -223,10 +229,22 @@ module _ (base : BaseData) (old : RunData) (led : IsLed base old) where
   led_told_or_not new session text reply (inl t) = led_told new session text reply t
   led_told_or_not new session text reply (inr t) = led_same new t.1
 
+  -- nothing is in doubt where a checkpoint is made, so that it may end commits
+  led_checkpoint : (new : RunData) (answer : AnswerData) → Checkpoints old answer new → IsLed base new
+  led_checkpoint new answer (inl s) = led_same new s.3
+  led_checkpoint new answer (inr (going, inl s)) = led_same new s.1
+  led_checkpoint new answer (inr (going, inr s)) = subst (IsLed base) (sym s.1) (record {
+    legal = led.legal;
+    replayed = led.replayed;
+    sound = led.sound;
+    doubted = led.doubted;
+    ended = λ some. absurd (cc (subst (λ (o : Option ℕ). IsSome o) going (led.ended some)));
+  })
+
   led_step : (new : RunData) (s : StepData) (answer : AnswerData) → StepTells old s answer new → IsLed base new
   led_step new (flush part) answer s = led_same new s.1
   led_step new settle answer s = led_same new s.1
-  led_step new checkpoint answer s = led_same new s.1
+  led_step new checkpoint answer s = led_checkpoint new answer s
   led_step new reopen answer s = led_by base old led old.doubt new led.doubted s.1
   led_step new history answer s = led_same new s.1
   led_step new (bag vertex dir class) answer s = led_same new s.1

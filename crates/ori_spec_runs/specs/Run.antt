@@ -10,7 +10,7 @@ use Rattle.ori_spec_data.specs.Asked.{IsAskable, refusal_of, fresh_by, entry_on}
 use Rattle.ori_spec_data.specs.Limits.{FoundData, limit_after, limit_cause}
 use Rattle.ori_spec_data.specs.Views.{view_of}
 use Rattle.ori_spec_data.specs.Keeping.{bytes_with}
-use Rattle.ori_spec_data.specs.Replies.{RefusalData, by_base, feed_full, halted, fault, no_memory, unbuilt}
+use Rattle.ori_spec_data.specs.Replies.{RefusalData, by_base, feed_full, halted, fault, device, no_memory, unbuilt}
 use Rattle.ori_spec_data.specs.Replies.{ReplyData, refused, granted}
 use Rattle.ori_spec_texts.specs.Statement.{StatementData, IsStatement, rows_at}
 use Rattle.ori_spec_texts.specs.Line.{LineData, statement, tries, step, StepData, flush, settle, checkpoint, reopen}
@@ -109,15 +109,16 @@ pub record Accepts (old : RunData) (session : ℕ) (p : PendingData) (entry : En
     limit = limit_after old.base (asked_by p) old.limit;
   }
 
--- A write failed. All is as before, or commits have ended and the entry is in doubt: it may have been made or not.
+-- A write failed. Commits may have ended, and only then may the entry be in doubt: it was made or not. They go on where
+-- a home's write failed before the entry's own, and nothing is in doubt where it never came to the entry's own.
 pub record Fails (old : RunData) (session : ℕ) (p : PendingData) (entry : EntryData) (reply : ReplyData)
     (new : RunData) : Type 0 where
   pub reply_is : reply ≡ refused fault
   pub halted_by : Option ℕ
   pub left_open : Option EntryData
   pub new_is : new ≡ record (left_by old session p) { halted = halted_by; doubt = left_open }
-  pub doubt_is :
-      ((left_open ≡ old.doubt) × (halted_by ≡ old.halted)) ⊎ ((left_open ≡ Some entry) × IsSome halted_by)
+  pub halted_is : (halted_by ≡ old.halted) ⊎ IsSome halted_by
+  pub doubt_is : (left_open ≡ old.doubt) ⊎ ((left_open ≡ Some entry) × IsSome halted_by)
 
 abbrev pub DecidesBy : RunData → ℕ → PendingData → Option RefusalData → ReplyData → RunData → Type 0
 DecidesBy old session p (Some why) reply new = (reply ≡ refused why) × (new ≡ left_by old session p)
@@ -145,9 +146,12 @@ Tells old session text reply new =
     × Replies old session (meaning (view_of old.base) (session_of old session) s) reply new)
     ⊎ (((s : StatementData) → IsStatement text s → ⊥) × (reply ≡ refused unbuilt) × (new ≡ old))
 
--- Out of memory may take the place of any reply to a session, and leaves all as it was.
+-- Out of memory may take the place of any reply to a session, and so may a failed read of a page. All is then as it
+-- was.
 abbrev pub TellsOrNot : RunData → ℕ → List ℕ → ReplyData → RunData → Type 0
-TellsOrNot old session text reply new = Tells old session text reply new ⊎ ((reply ≡ refused no_memory) × (new ≡ old))
+TellsOrNot old session text reply new =
+    Tells old session text reply new
+    ⊎ (((reply ≡ refused no_memory) ⊎ (reply ≡ refused device)) × (new ≡ old))
 
 -- ---- reopenings
 
@@ -177,11 +181,23 @@ Reopens old (Some entry) new = (new ≡ reopened old) ⊎ (new ≡ joined (reope
 
 -- ---- steps
 
+-- Work on the homes: done, or a write or sync of a home failed. It ends no commits, and changes no base.
+abbrev pub Tends : RunData → AnswerData → RunData → Type 0
+Tends old answer new = ((answer ≡ to_done) ⊎ (answer ≡ to_step fault)) × (new ≡ old)
+
+-- A checkpoint is refused where commits have ended, with the number of calls that had failed then. Else it is made, or
+-- a call failed in it, by which commits may have ended.
+abbrev pub Checkpoints : RunData → AnswerData → RunData → Type 0
+Checkpoints old answer new =
+    ((at : ℕ) × (old.halted ≡ Some at) × (answer ≡ to_step (halted at)) × (new ≡ old))
+    ⊎ ((old.halted ≡ None) × (((answer ≡ to_done) × (new ≡ old))
+    ⊎ ((answer ≡ to_step fault) × (new ≡ record old { halted = new.halted }))))
+
 -- a step of the store: its answer, and what it leaves
 abbrev pub StepTells : RunData → StepData → AnswerData → RunData → Type 0
-StepTells old (flush part) answer new = (answer ≡ to_step unbuilt) × (new ≡ old)
-StepTells old settle answer new = (answer ≡ to_step unbuilt) × (new ≡ old)
-StepTells old checkpoint answer new = (answer ≡ to_step unbuilt) × (new ≡ old)
+StepTells old (flush part) answer new = Tends old answer new
+StepTells old settle answer new = Tends old answer new
+StepTells old checkpoint answer new = Checkpoints old answer new
 StepTells old reopen answer new = (answer ≡ to_done) × Reopens old old.doubt new
 StepTells old history answer new = (answer ≡ to_history old.history) × (new ≡ old)
 StepTells old (bag vertex dir class) answer new = (answer ≡ to_step unbuilt) × (new ≡ old)

@@ -13,5 +13,6 @@ mod reopenings;
 mod runs;
 mod samples;
 mod shared;
+mod steps;
 mod texts;
 mod values;

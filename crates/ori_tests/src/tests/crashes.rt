@@ -2,7 +2,7 @@
 use super::runs::{COMMIT_CALLS, OPENING_CALLS, RunResult, over};
 use ori_bytes::NoMemory;
 use ori_volmem::{Image, MemVolume};
-use ori_volume::FileNo;
+use ori_volume::{FileNo, Volume};
 use std::alloc::Global;
 
 // A script over an empty volume that stops after so many calls.
@@ -104,6 +104,58 @@ fn leaves_a_prefix(alloc: Global, volume: &MemVolume, entries: u64, in_doubt: bo
         }
     }
     true
+}
+
+// Three INSERTs, and a step that sends the page of the third home.
+const FLUSHED: &[u8] =
+    b"1 INSERT INTO V SET a = '0'\n1 INSERT INTO V SET a = '1'\n1 INSERT INTO V SET a = '2'\n! flush 3\n";
+
+// The flush is stopped inside its write of page 3, whose home may be anything then: the log has the page.
+#[test]
+fn a_home_that_is_half_written_is_not_read(rt: HostRuntime) {
+    let calls = OPENING_CALLS + 3 * COMMIT_CALLS;
+    let Ok((came, volume)) = stopped(rt.alloc(), FLUSHED, calls) else {
+        panic!(rt; "out of memory")
+    };
+    assert!(rt; volume.faults() == 1 && volume.is_loose(FileNo::Pages, 3 * 4096));
+    assert!(rt; came.entries == 3 && !came.in_doubt);
+    assert!(rt; leaves_a_prefix(rt.alloc(), &volume, 3, false));
+}
+
+const CHECKPOINT: &[u8] = b"1 INSERT INTO V SET a = '0'\n! checkpoint\n";
+
+// What a crash leaves with this byte in the master.
+fn with_loose_master(
+    alloc: Global,
+    volume: &MemVolume,
+    byte: u8,
+) -> Result<Option<Image>, NoMemory> {
+    let image = volume.crash(1)?;
+    if !volume.is_loose(FileNo::Master, 0) || image.master.len() == 0 {
+        return Ok(None);
+    }
+    Ok(Some(volume.crash_with(1, FileNo::Master, 0, byte)?))
+}
+
+// Whether a crash with this byte in the master leaves one record.
+fn master_leaves_one(alloc: Global, volume: &MemVolume, byte: u8) -> bool {
+    match with_loose_master(alloc, volume, byte) {
+        Ok(Some(image)) => has(alloc, image, 1),
+        _ => false,
+    }
+}
+
+// The checkpoint has written the master, after two homes and their sync and three calls for the other log, and not
+// synced it: either log may be the one in use.
+#[test]
+fn a_checkpoint_leaves_either_log(rt: HostRuntime) {
+    let calls = OPENING_CALLS + COMMIT_CALLS + 3 + 3 + 1;
+    let Ok((came, volume)) = stopped(rt.alloc(), CHECKPOINT, calls) else {
+        panic!(rt; "out of memory")
+    };
+    assert!(rt; came.entries == 1 && !came.in_doubt);
+    assert!(rt; master_leaves_one(rt.alloc(), &volume, 0x37));
+    assert!(rt; master_leaves_one(rt.alloc(), &volume, 0x36));
 }
 
 // Whether those do which three INSERTs leave that stop after so many calls.

@@ -4,21 +4,29 @@ use super::shared::numbers;
 use ori_bytes::{NoMemory, Text};
 use ori_engine::Engine;
 use ori_model::Reply;
+use ori_script::Sole;
 use ori_session::Session;
 use ori_text::reply_text;
+use ori_turns::Owned;
 use ori_volmem::MemVolume;
 use std::alloc::Global;
+
+// The engine over a volume in memory, whose turns are its own.
+type MemEngine = Engine<MemVolume, Owned<MemVolume>>;
 
 // Two sessions over one database.
 #[derive(Drop)]
 struct Desk {
     one: Session,
     two: Session,
-    engine: Engine<MemVolume>,
+    engine: MemEngine,
 }
 
 fn new_desk(alloc: Global, volume: MemVolume) -> Option<Desk> {
-    let Ok(engine) = Engine::start(alloc, volume) else {
+    let Ok(frames) = Owned::of(alloc, volume) else {
+        return None;
+    };
+    let Ok(engine) = Engine::start(alloc, frames) else {
         return None;
     };
     Some(Desk {
@@ -29,12 +37,7 @@ fn new_desk(alloc: Global, volume: MemVolume) -> Option<Desk> {
 }
 
 // What a session answers to a statement.
-fn answered(
-    alloc: Global,
-    session: &mut Session,
-    engine: &mut Engine<MemVolume>,
-    text: &str,
-) -> Reply {
+fn answered(alloc: Global, session: &mut Session, engine: &mut MemEngine, text: &str) -> Reply {
     session.exec(alloc, engine, text)
 }
 

@@ -47,20 +47,22 @@ fn a_reopening_decides_an_entry_in_doubt(rt: HostRuntime) -> Result<(), Fail> {
     Ok(())
 }
 
-// Two commits, a reopening, and one commit more.
-const THREE: &[u8] = b"1 INSERT INTO V SET n = 0\n1 INSERT INTO V SET n = 1\n! reopen\n\
-1 INSERT INTO V SET n = 2\n";
+// Commits, and between them each step that sends pages home or changes the log, and a reopening.
+const STEPS: &[u8] =
+    b"1 INSERT INTO V SET n = 0\n! flush 0\n! flush 1\n1 INSERT INTO V SET n = 1\n! settle\n\
+! flush 2\n! checkpoint\n1 INSERT INTO V SET n = 2\n! flush 3\n! reopen\n! flush 0\n! settle\n\
+1 INSERT INTO V SET n = 3\n! checkpoint\n";
 
 // How many device calls the whole of it makes.
 fn all_calls(alloc: Global) -> Result<u64, NoMemory> {
-    let (_, volume) = over(alloc, MemVolume::empty(alloc), THREE)?;
+    let (_, volume) = over(alloc, MemVolume::empty(alloc), STEPS)?;
     Ok(volume.calls())
 }
 
-const READS: &[u8] =
-    b"1 SELECT FROM #1:0\n1 SELECT FROM #1:1\n1 SELECT FROM #1:2\n1 SELECT FROM #1:3\n";
+const READS: &[u8] = b"1 SELECT FROM #1:0\n1 SELECT FROM #1:1\n1 SELECT FROM #1:2\n\
+1 SELECT FROM #1:3\n1 SELECT FROM #1:4\n";
 
-// How many of the first four positions an image has a record at.
+// How many of the first five positions an image has a record at.
 fn records(alloc: Global, image: Image) -> Result<u64, NoMemory> {
     let (came, _) = over(alloc, MemVolume::of_image(image), READS)?;
     let mut found: u64 = 0;
@@ -75,7 +77,7 @@ fn records(alloc: Global, image: Image) -> Result<u64, NoMemory> {
 // How many of four images that a run over this volume leaves don't open to all entries of its history, nor to these and
 // the one in doubt.
 fn wrong(alloc: Global, volume: MemVolume) -> Result<u64, NoMemory> {
-    let (came, volume) = over(alloc, volume, THREE)?;
+    let (came, volume) = over(alloc, volume, STEPS)?;
     let more = came.entries.saturating_add(1);
     let mut wrong: u64 = 0;
     for pick in 0..4 {
@@ -88,7 +90,7 @@ fn wrong(alloc: Global, volume: MemVolume) -> Result<u64, NoMemory> {
 }
 
 #[test]
-fn a_stop_around_a_reopening_leaves_a_prefix(rt: HostRuntime) -> Result<(), Fail> {
+fn a_stop_at_any_call_leaves_a_prefix(rt: HostRuntime) -> Result<(), Fail> {
     let alloc = rt.alloc();
     for calls in 0..all_calls(alloc)?.saturating_add(1) {
         let mut volume = MemVolume::empty(alloc);
@@ -99,7 +101,7 @@ fn a_stop_around_a_reopening_leaves_a_prefix(rt: HostRuntime) -> Result<(), Fail
 }
 
 #[test]
-fn a_fault_around_a_reopening_leaves_a_prefix(rt: HostRuntime) -> Result<(), Fail> {
+fn a_fault_at_any_call_leaves_a_prefix(rt: HostRuntime) -> Result<(), Fail> {
     let alloc = rt.alloc();
     for call in 0..all_calls(alloc)? {
         let mut volume = MemVolume::empty(alloc);

@@ -5,7 +5,7 @@ use Rattle.ori_model.specs.Data.{record_of}
 use Rattle.ori_record.specs.declared.bag_field.BagField.{BagField}
 use Rattle.ori_record.specs.declared.fault.RecordFault.{RecordFault}
 use Rattle.ori_record.specs.Spelling.{Spells}
-use Rattle.ori_engine.proofs.RecordForms.{no_items}
+use Rattle.ori_paged.proofs.RecordForms.{no_items}
 use Rattle.ori_engine.proofs.ReadRows.{none_unspelled, none_unpaged, none_bagged, no_bags}
 use Rattle.ori_engine.proofs.rows.read_row.Goals as goal
 

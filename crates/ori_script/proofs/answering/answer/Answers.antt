@@ -1,8 +1,8 @@
 use Rattle.std.proofs.Common.{refl, sym, subst}
 use Rattle.ori_text.specs.declared.line.Line.{Line}
-use Rattle.ori_text.specs.LineReading.{step_of, line_of}
-use Rattle.ori_script.specs.Keeping.{kept, Answers}
-use Rattle.ori_script.proofs.Lines.{tries_so, printed_so, step_so}
+use Rattle.ori_text.specs.LineReading.{line_of}
+use Rattle.ori_script.specs.Keeping.{kept, sessions_of, Answers}
+use Rattle.ori_script.proofs.Lines.{tries_so, printed_so}
 use Rattle.ori_script.proofs.answering.answer.Goals as goal
 
 pub returns-in-Tries-clause-answered : goal.returns-in-Tries-clause-answered
@@ -14,6 +14,8 @@ returns-in-Tries-clause-answered g c =
 
 pub returns-in-Step-clause-answered : goal.returns-in-Step-clause-answered
 returns-in-Step-clause-answered g c =
-    let keeps = kept g.D.Reader.state g.D.Reader.causes c.args.past.now c.args.database.now c.args.sessions.now in
-    subst (λ (l : Line). Answers keeps (line_of l) c.step_text.result keeps) (sym c.in-Step.is)
-    (step_so (step_of c.in-Step.step) keeps c.step_text.result c.step_text.ensures)
+    let keeps = kept g.D.Reader.state g.D.Reader.causes in
+    let old = keeps c.args.past.now c.args.database.now c.args.sessions.now in
+    let new = keeps c.args.past.now c.step_text.new.database c.args.sessions.now in
+    subst (λ (l : Line). Answers old (line_of l) c.step_text.result new) (sym c.in-Step.is)
+    (c.step_text.ensures.answered (sessions_of c.args.sessions.now))

@@ -10,7 +10,8 @@ pub returns-clause-stepped : goal.returns-clause-stepped
 returns-clause-stepped g c =
     let done = c.exec-reply.ensures.done in
     told_behind _ _ c.make_room.ensures.same _ _ _ _ _ c.args.text.now _ _ c.args.session c.exec-reply.result done.left
-    c.is_told.ensures c.is_told-2.ensures (g.met.D.Keeper.shows_base c.args.database.now) done.sessions done.executes
+    c.is_told.ensures.told c.is_told-2.ensures.told c.is_told-2.ensures.alone
+    (g.met.D.Keeper.shows_base c.args.database.now) done.sessions done.executes
 
 pub returns-clause-stays : goal.returns-clause-stays
 returns-clause-stays g c =

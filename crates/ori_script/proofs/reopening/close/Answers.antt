@@ -4,4 +4,4 @@ use Rattle.ori_script.proofs.reopening.close.Goals as goal
 pub returns-clause-room : goal.returns-clause-room
 returns-clause-room g c =
     c.take.ensures.room _
-    (room_of _ _ _ c.keeps.ensures c.end-volume.result.feed c.end-volume.ensures.feed c.requires.room)
+    (room_of _ _ _ c.keeps.ensures c.end_volume-volume.result.feed c.end_volume-volume.ensures.feed c.requires.room)

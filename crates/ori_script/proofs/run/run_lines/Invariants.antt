@@ -4,16 +4,16 @@ use Rattle.ori_volume.specs.Disk.{Files}
 use Rattle.ori_engine.specs.Openings.{StaysOpen}
 use Rattle.ori_script.specs.Pasts.{earlier_of, IsReady}
 use Rattle.ori_script.specs.Keeping.{kept}
-use Rattle.ori_script.specs.Script.{GoesOn}
+use Rattle.ori_script.specs.Script.{PassedData, GoesOn}
 use Rattle.ori_script.proofs.run.run_lines.Given as goal
 
 -- all lines so far have their answers, and nothing was lost
 abbrev pub invariant-lines : goal.invariant-lines
 invariant-lines g l = record {
-  goes_on : (files : Option Files) (halts : List (Option ℕ)) (left taken : Option (List ℕ))
-      → GoesOn files halts left (g.S.Source.left l.initial.source) taken (g.K.Sink.taken l.initial.sink)
+  goes_on : (files : Option Files) (passed : PassedData) (left taken : Option (List ℕ))
+      → GoesOn files passed left (g.S.Source.left l.initial.source) taken (g.K.Sink.taken l.initial.sink)
       l.initial.reader (kept g.D.Reader.state g.D.Reader.causes l.initial.past l.initial.database l.initial.sessions)
-      → GoesOn files halts left (g.S.Source.left l.source) taken (g.K.Sink.taken l.sink) l.reader
+      → GoesOn files passed left (g.S.Source.left l.source) taken (g.K.Sink.taken l.sink) l.reader
       (kept g.D.Reader.state g.D.Reader.causes l.past l.database l.sessions);
   same : earlier_of l.past ≡ earlier_of l.initial.past;
   ready : IsReady l.initial.past (g.D.Reader.state l.initial.database)

@@ -2,6 +2,7 @@ use Rattle.std.proofs.Common.{◌≡◌, refl, sym, ap, ◌∙◌, arith}
 use Rattle.ori_text.specs.Lines.{Reading}
 use Rattle.ori_script.specs.declared.run.Stop.TheVariants as stops
 use Rattle.ori_script.specs.Keeping.{sessions_of}
+use Rattle.ori_script.specs.Script.{passed_by}
 use Rattle.ori_script.proofs.Loops.{ends_first, begins_lines, ends_lines, ends_failed, next_stands, next_ends}
 use Rattle.ori_script.proofs.script.run_openings.Goals as goal
 
@@ -32,7 +33,7 @@ returns-in-Ended-clause-over g c = λ entry one b.
     let s = c.openings.invariant.stands entry one b in
     ends_lines entry _ _ _ _ _ _ _ c.run_lines.new.reader _ _ _ _ _ s lines.same lines.stays.opening lines.stays.sound
     (sessions_of c.run_lines.new.sessions) _ out.result.status _ _ _ out.ensures.status out.ensures.closed
-    (lines.run entry.told.files s.halts _ _ s.goes_on)
+    (lines.run entry.told.files (passed_by s.halts entry.faults s.begun.faults) _ _ s.goes_on)
     (λ five. lines.no_opening.0 (ap stops.Ended five)) (λ six. lines.no_opening.1 (ap stops.Ended six))
 
 pub returns-in-Err-clause-over : goal.returns-in-Err-clause-over
@@ -41,7 +42,7 @@ returns-in-Err-clause-over g c = λ entry one b.
     let s = c.openings.invariant.stands entry one b in
     ends_failed entry _ _ _ _ _ _ _ c.run_lines.new.reader _ _ _ _ _ s lines.same lines.stays.opening
     lines.stays.sound (sessions_of c.run_lines.new.sessions) _ _ _ _
-    (lines.run entry.told.files s.halts _ _ s.goes_on) c.in-Err.ensures.fails
+    (lines.run entry.told.files (passed_by s.halts entry.faults s.begun.faults) _ _ s.goes_on) c.in-Err.ensures.fails
 
 pub returns-in-Some-clause-over : goal.returns-in-Some-clause-over
 returns-in-Some-clause-over g c = λ entry one b.
@@ -51,7 +52,8 @@ returns-in-Some-clause-over g c = λ entry one b.
     let next = c.in-Ok-reopen.ensures in
     next_ends entry _ _ _ _ _ _ _ c.run_lines.new.reader _ _ _ _ _ s lines.same lines.stays.opening lines.stays.sound
     (sessions_of c.run_lines.new.sessions) _ _ _ (sessions_of c.reopen.new.sessions) _ one next.goes
-    (lines.run entry.told.files s.halts _ _ s.goes_on) next.closed _ out.result.status _ _ _
+    (lines.run entry.told.files (passed_by s.halts entry.faults s.begun.faults) _ _ s.goes_on) next.closed _
+    out.result.status _ _ _
     c.in-Some.ensures.said out.ensures.status out.ensures.closed
 
 pub openings-preserved : goal.openings-preserved
@@ -64,7 +66,8 @@ openings-preserved g c =
           (let s = inv.stands entry one b in
           next_stands entry _ _ _ _ _ _ _ c.run_lines.new.reader _ _ _ _ _ s lines.same lines.stays.opening
           lines.stays.sound (sessions_of c.run_lines.new.sessions) _ _ _ (sessions_of c.reopen.new.sessions) _ one
-          next.goes (lines.run entry.told.files s.halts _ _ s.goes_on) next.closed c.in_default-say_done.ensures.said);
+          next.goes (lines.run entry.told.files (passed_by s.halts entry.faults s.begun.faults) _ _ s.goes_on)
+          next.closed c.in_default-say_done.ensures.said);
       ready = next.ready;
       within = (lines.further refl).1;
       source_later = omega (arith, inv.source_later, lines.source_later);

@@ -1,6 +1,7 @@
 use Rattle.std.proofs.Common.{◌≡◌, Option, Some, None, IfSome, refl, sym, ap, ◌∙◌, subst, arith}
 use Rattle.std.specs.Prelude.{option_map}
-use Rattle.ori_bytes.specs.declared.causes.Causes.{Causes}
+use Rattle.ori_turns.specs.Slots.{shown}
+use Rattle.ori_engine.specs.Openings.{troubles_of}
 use Rattle.ori_volume.specs.Story.{Story}
 use Rattle.ori_model.specs.Data.{entry_of}
 use Rattle.ori_script.specs.Pasts.{earlier_of}
@@ -18,8 +19,9 @@ returns-in-Err-clause-promises g c =
     not_opened (seen c.args.volume c.args.source.now c.args.sink.now)
     (seen c.in-Err.field-0.volume c.args.source.now c.args.sink.now) _ _ status.why c.no_report.ensures.nothing refl
     refl left.left
-    (λ five. left.fault (status.volume five)) (λ six. left.not_a_database (status.form six))
-    (λ six. left.refused (status.form six))
+    (λ five. left.fault (status.volume five))
+    (λ six. left.not_a_database (status.form six).0 (status.form six).1)
+    (λ six. left.refused (status.form six).0 (status.form six).1)
     (record { source = omega arith; sink = omega arith; volume = left.later; log = left.log_later })
 
 pub returns-clause-promises : goal.returns-clause-promises
@@ -30,7 +32,7 @@ returns-clause-promises g c =
     let out = c.run_openings-status in
     let new = seen out.result.volume out.new.source out.new.sink in
     let start = c.in-Ok.ensures in
-    let engine = c.in-Ok.engine in
+    let held = (shown c.in-Ok.engine.pool.overlay.source.frames.device).volume in
     was_run old new out.result.status _ (earlier_of out.new.past) c.is_initial-was_empty.result
     (option_map entry_of out.result.doubt) c.report.ensures
     (out.ensures.over (volume_in old)
@@ -38,14 +40,14 @@ returns-clause-promises g c =
     (record {
       started = start.found;
       fresh = start.fresh;
-      no_fault = ap (λ (x : Causes). x.fault) start.causes;
+      no_fault = ap troubles_of start.causes;
       since = start.sound;
       since_end = start.since_end;
       opened_since = start.since;
-      opened_at = some_by (g.V.Volume.story engine.volume) _
-          (λ s is. start.at_end.moment ∙ g.met.V.Volume.counts_past engine.volume s is);
+      opened_at = some_by (g.V.Volume.story held) _
+          (λ s is. start.moment ∙ g.met.V.Volume.counts_past held s is);
       stands = start.whole;
-      read = some_by (g.V.Volume.story engine.volume) _ (λ s is. g.met.V.Volume.reads_as_image engine.volume s is);
+      read = some_by (g.V.Volume.story held) _ (λ s is. g.met.V.Volume.reads_as_image held s is);
     }))
     (λ found finds. some_base c.is_initial-was_empty.ensures (start.found found finds).base_is) start.database
     out.ensures.source_cause out.ensures.sink_cause out.ensures.source_later out.ensures.sink_later

@@ -1,5 +1,6 @@
 use Rattle.std.proofs.Common.{◌≡◌, ◌<◌, inr, ℕ, Bool, List, length, Result, Ok, Err, OnOk, OnErr, refl, sym, subst}
-use Rattle.std.proofs.Common.{ap, ◌∙◌}
+use Rattle.std.proofs.Common.{ap, ◌∙◌, ◌≤◌, ⊎_elim, arith}
+use Rattle.std.proofs.lemmas.Bool.{cases_lt}
 use Rattle.ori_log.specs.Log.{ImageData}
 use Rattle.ori_cover.specs.Given.{ArePut}
 use Rattle.ori_pool.specs.declared.fault.OpFault.{OpFault}
@@ -7,7 +8,10 @@ use Rattle.ori_pool.specs.declared.fault.OpFault.TheVariants.{Fault, Halted, Bus
 use Rattle.ori_turns.specs.Caches.{Cache}
 use Rattle.ori_turns.specs.Committed.{CommitsCache, IfDone}
 use Rattle.ori_overlay.specs.Changed.{Shows, number_of}
+use Rattle.ori_turns.specs.Knowing.{Knows}
+use Rattle.ori_overlay.specs.Over.{AreChanged}
 use Rattle.ori_cache.specs.Pools.{CommitsPool}
+use Rattle.ori_cache.proofs.Committing.{are_others, counted_after}
 use Rattle.ori_cache.proofs.pool.Pool.commit.Goals as goal
 
 done_map : {T : Type 0} (result : Result T OpFault) (P Q : Result T OpFault → Type 0)
@@ -17,6 +21,9 @@ done_map (Err (Fault doubt)) P Q step holds = step (Err (Fault doubt)) holds
 done_map (Err (Halted at_fault)) P Q step holds = step (Err (Halted at_fault)) holds
 done_map (Err (Busy turn)) P Q step holds = tt
 done_map (Err NoMemory) P Q step holds = step (Err NoMemory) holds
+
+not_zero : (n : ℕ) → (n ≡ 0 → ⊥) → 0 < n
+not_zero n some = ⊎_elim (λ (lt : 0 < n). lt) (λ (le : n ≤ 0). absurd (some (omega (arith, le)))) (cases_lt 0 n)
 
 -- how many pages there are after it
 number_after : {T : Type 0} (result : Result T OpFault) (images : List ImageData) (due : Bool) (put : List (List ℕ))
@@ -66,6 +73,17 @@ returns-clause-committed g c =
         t.7,
         (λ cache put gives count shows. t.8 cache put gives (are_put cache put gives count shows)),
       )) c.put-done.ensures.crash);
+      same = λ some turn is. (c.put-done.ensures.busy turn is).1;
+      other = λ doubt is cache put gives count shows. are_others cache.pages put
+          (number_of a.overlay.changes s0.count)
+          (subst (λ (n : ℕ). AreChanged cache.pages put n) c.changed.ensures.number
+          (c.changed.ensures.changed cache.pages put (record {
+            cache = cache;
+            gives = subst (λ s. g.F.Frames.gives s.frames cache) c.images.ensures.source gives;
+            pages_are = refl;
+            count = subst (λ s. length cache.pages ≡ s.count) c.images.ensures.source count;
+          }) shows)) (not_zero (number_of a.overlay.changes s0.count)
+          (λ none. c.if-changed-eq0.false (c.changed.ensures.number ∙ none)));
       gives = λ cache put gives count shows.
           let put_is = are_put cache put gives count shows in
           let did = c.put-done.ensures.gives cache put gives put_is in (
@@ -81,6 +99,11 @@ returns-clause-committed g c =
             number_after c.put-done.result images a.known.due put cache did.0 c.count-count.result s1.count s2.count
                 did.1 c.put-done.ensures.count c.put-done.ensures.refused
                 (shows.count ∙ sym c.count-count.ensures) count,
+            counted_after c.put-done.result images a.known.due put cache did.0 (g.F.Frames.seat s1.frames).last
+                (g.F.Frames.seat s2.frames).last a.known c.put-done.new.self.known did.1 did.3
+                (λ turn is. (c.put-done.ensures.busy turn is).1.last) s1.ready.attached
+                (subst (λ s. Knows (g.F.Frames.seat s.frames).last a.known) (sym c.images.ensures.source) a.knows)
+                c.put-done.new.self.knows,
           );
     } in
     subst (λ s. CommitsPool g.V.Volume.files g.V.Volume.story g.V.Volume.moment g.V.Volume.faults

@@ -20,6 +20,4 @@ invariant_of-self c =
       counted = c.requires.bytes ∙ sym (ap feed_bytes
           (ap entries_of pushed ∙ entries_more c.args.self.now.feed.items c.args.entry)
           ∙ feed_more (entries_of c.args.self.now.feed.items) (entry_of c.args.entry));
-      doubts = c.args.self.now.doubts;
-      roomy = c.args.self.now.roomy;
     }

@@ -1,0 +1,6 @@
+use Rattle.ori_script.proofs.Soles.{never_held}
+use Rattle.ori_script.proofs.database.EngineDatabase.settle.Goals as goal
+
+pub returns-clause-alone : goal.returns-clause-alone
+returns-clause-alone g c = λ turn is.
+    never_held _ _ turn (g.met.F.Sole.alone _) (c.settle.ensures.works.busy turn is)
